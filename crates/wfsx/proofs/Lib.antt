@@ -1,0 +1,9 @@
+-- The theorems. `Operators`, `Contradiction`, `Trees` and `Agreement` have those that README lists; the others serve them.
+pub mod Sets
+pub mod Chain
+pub mod Program
+pub mod Supported
+pub mod Operators
+pub mod Contradiction
+pub mod Trees
+pub mod Agreement

@@ -1,0 +1,170 @@
+-- Laws of tests and sets, and how many entries of a list lie outside a set.
+use mathlib.Core.Path.{_≡_, refl, sym, _∙_, ap, fun-ext}
+use mathlib.Core.Logic.{_⊎_, inl, inr}
+use mathlib.Core.Bool.{Bool, true, false, not, _&&_, _||_, true≢false}
+use mathlib.Core.List.{List, [], _∷_, List·Memᴰ, List·Memᴰ·head, List·Memᴰ·tail}
+use Prim.Native.Nat.{ℕ, zero, suc, _+_, _≤_, _<_}
+use native.Mathlib.Omega.{arith}
+use lib.ListN.{length}
+use lib.Dec.{eqb}
+use borrow.Author.Tests.{eqb-true, eq-eqb, not-true}
+use Rattle.wfsx.specs.Sets.{Set, _∈_, _∉_, _⊆_, ∅, _∪_, add, _isIn_}
+
+-- ---- tests
+
+pub clash : {b : Bool} → b ≡ true → b ≡ false → ⊥
+clash p q = true≢false (sym p ∙ q)
+
+pub decided : (b : Bool) → (b ≡ true) ⊎ (b ≡ false)
+decided true = inl refl
+decided false = inr refl
+
+-- not in a larger set, so not in a smaller one
+pub contra : {a b : Bool} → (a ≡ true → b ≡ true) → b ≡ false → a ≡ false
+contra {a = true} f q = absurd (clash (f refl) q)
+contra {a = false} f q = refl
+
+pub refuted : {b : Bool} → (b ≡ true → ⊥) → b ≡ false
+refuted {b = true} f = absurd (f refl)
+refuted {b = false} f = refl
+
+pub same-test : {a b : Bool} → (a ≡ true → b ≡ true) → (b ≡ true → a ≡ true) → a ≡ b
+same-test {a = true} f g = sym (f refl)
+same-test {a = false} {b = true} f g = g refl
+same-test {a = false} {b = false} f g = refl
+
+-- where either test's success makes the two equal, they are equal
+pub same-if : {a b : Bool} → (a ≡ true → a ≡ b) → (b ≡ true → a ≡ b) → a ≡ b
+same-if {a = true} f g = f refl
+same-if {a = false} {b = true} f g = g refl
+same-if {a = false} {b = false} f g = refl
+
+pub not-intro : {b : Bool} → b ≡ false → not b ≡ true
+not-intro e = ap not e
+
+pub not-mono : (a : Bool) {b : Bool} → (b ≡ true → a ≡ true) → not a ≡ true → not b ≡ true
+not-mono a f h = not-intro (contra f (not-true a h))
+
+pub and-l : (a b : Bool) → a && b ≡ true → a ≡ true
+and-l true b e = refl
+and-l false b e = e
+
+pub and-r : (a b : Bool) → a && b ≡ true → b ≡ true
+and-r true b e = e
+and-r false b e = absurd (clash e refl)
+
+pub and-intro : (a b : Bool) → a ≡ true → b ≡ true → a && b ≡ true
+and-intro true b p q = q
+and-intro false b p q = p
+
+pub or-elim : (a b : Bool) → a || b ≡ true → (a ≡ true) ⊎ (b ≡ true)
+or-elim true b e = inl refl
+or-elim false b e = inr e
+
+pub or-l : (a b : Bool) → a ≡ true → a || b ≡ true
+or-l true b e = refl
+or-l false b e = absurd (clash e refl)
+
+pub or-r : (a b : Bool) → b ≡ true → a || b ≡ true
+or-r true b e = refl
+or-r false b e = e
+
+pub or-none : (a b : Bool) → a ≡ false → b ≡ false → a || b ≡ false
+or-none a b p q = ap (λ (x : Bool). x || b) p ∙ q
+
+pub and-map : (a b : Bool) {c d : Bool} → (a ≡ true → c ≡ true) → (b ≡ true → d ≡ true) → a && b ≡ true → c && d ≡ true
+and-map a b {c} {d} f g h = and-intro c d (f (and-l a b h)) (g (and-r a b h))
+
+pub or-map : (a b : Bool) {c d : Bool} → (a ≡ true → c ≡ true) → (b ≡ true → d ≡ true) → a || b ≡ true → c || d ≡ true
+or-map true b {c} {d} f g h = or-l c d (f refl)
+or-map false b {c} {d} f g h = or-r c d (g h)
+
+-- ---- sets
+
+pub ∅⊆ : (S : Set) → ∅ ⊆ S
+∅⊆ S A h = absurd (clash h refl)
+
+pub ⊆-antisym : {S U : Set} → S ⊆ U → U ⊆ S → S ≡ U
+⊆-antisym f g = fun-ext (λ A. same-test (f A) (g A))
+
+pub add-has : (A : ℕ) (S : Set) → A ∈ add A S
+add-has A S = or-l _ _ (eq-eqb A A refl)
+
+pub ⊆-add : (A : ℕ) (S : Set) → S ⊆ add A S
+⊆-add A S B h = or-r (eqb B A) (S B) h
+
+-- an ancestor added to the left part of a union is added to the union
+pub add-∪ : (A : ℕ) (S U : Set) → add A S ∪ U ≡ add A (S ∪ U)
+add-∪ A S U = fun-ext (λ B. go (eqb B A) (S B) (U B))
+  where
+    go : (a b c : Bool) → ((a || b) || c) ≡ (a || (b || c))
+    go true b c = refl
+    go false b c = refl
+
+-- U and S have no member in common
+abbrev pub Apart : Set → Set → Type 0
+Apart U S = (B : ℕ) → B ∈ U → B ∉ S
+
+pub apart-∅ : (U : Set) → Apart U ∅
+apart-∅ U B b = refl
+
+pub apart-add : {U S : Set} (A : ℕ) → A ∉ U → Apart U S → Apart U (add A S)
+apart-add {U} {S} A a d B b = or-none (eqb B A) (S B) (refuted (λ e. clash (rw (eqb-true B A e) at b) a)) (d B b)
+
+-- ---- how many entries of a list lie outside a set
+
+abbrev pub tally : Bool → ℕ → ℕ
+tally true n = n
+tally false n = suc n
+
+abbrev pub outside : Set → List ℕ → ℕ
+outside S [] = zero
+outside S (h ∷ H) = tally (S h) (outside S H)
+
+tally-le : (a b : Bool) {n m : ℕ} → (a ≡ true → b ≡ true) → n ≤ m → tally b n ≤ tally a m
+tally-le true true f h = h
+tally-le true false f h = absurd (clash (f refl) refl)
+tally-le false true f h = omega arith
+tally-le false false f h = omega arith
+
+tally-lt : (a b : Bool) {n m : ℕ} → (a ≡ true → b ≡ true) → n < m → tally b n < tally a m
+tally-lt true true f h = h
+tally-lt true false f h = absurd (clash (f refl) refl)
+tally-lt false true f h = omega arith
+tally-lt false false f h = omega arith
+
+tally-new : (a b : Bool) {n m : ℕ} → a ≡ false → b ≡ true → n ≤ m → tally b n < tally a m
+tally-new a b p q h = rw (p, q) (omega arith)
+
+pub outside-most : (S : Set) (H : List ℕ) → outside S H ≤ length H
+outside-most S [] = omega arith
+outside-most S (h ∷ H) = tally-le false (S h) (λ e. absurd (clash e refl)) (outside-most S H)
+
+pub outside-anti : (S U : Set) → S ⊆ U → (H : List ℕ) → outside U H ≤ outside S H
+outside-anti S U f [] = omega arith
+outside-anti S U f (h ∷ H) = tally-le (S h) (U h) (f h) (outside-anti S U f H)
+
+-- a set with one more entry of the list leaves fewer outside
+pub outside-falls : (S U : Set) → S ⊆ U → (A : ℕ) → A ∉ S → A ∈ U → {H : List ℕ} → A isIn H → outside U H < outside S H
+outside-falls S U f A s u (List·Memᴰ·head {x = h} {xs = H} e) = tally-new (S h) (U h) (rw e at s) (rw e at u) (outside-anti S U f H)
+outside-falls S U f A s u (List·Memᴰ·tail {x = h} m) = tally-lt (S h) (U h) (f h) (outside-falls S U f A s u m)
+
+pub outside-add : (S : Set) (A : ℕ) → A ∉ S → {H : List ℕ} → A isIn H → outside (add A S) H < outside S H
+outside-add S A s m = outside-falls S (add A S) (⊆-add A S) A s (add-has A S) m
+
+-- an entry of the list that is in U and not in S, or none
+pub first-missing : (S U : Set) (H : List ℕ) → ((A : ℕ) → A isIn H → A ∈ U → A ∈ S) ⊎ ((A : ℕ) × A isIn H × A ∈ U × A ∉ S)
+first-missing S U [] = inl (λ A m u. elim m [ ])
+first-missing S U (h ∷ H) = go (decided (U h)) (decided (S h)) (first-missing S U H)
+  where
+    none : (h ∈ U → h ∈ S) → ((A : ℕ) → A isIn H → A ∈ U → A ∈ S) → (A : ℕ) → A isIn h ∷ H → A ∈ U → A ∈ S
+    none here rest A (List·Memᴰ·head e) u = rw e (here (rw e at u))
+    none here rest A (List·Memᴰ·tail m) u = rest A m u
+
+    go : (h ∈ U) ⊎ (h ∉ U) → (h ∈ S) ⊎ (h ∉ S) → ((A : ℕ) → A isIn H → A ∈ U → A ∈ S) ⊎ ((A : ℕ) × A isIn H × A ∈ U × A ∉ S)
+        → ((A : ℕ) → A isIn h ∷ H → A ∈ U → A ∈ S) ⊎ ((A : ℕ) × A isIn h ∷ H × A ∈ U × A ∉ S)
+    go (inl u) (inr s) r = inr (h, List·Memᴰ·head refl, u, s)
+    go (inl u) (inl s) (inl f) = inl (none (λ _. s) f)
+    go (inr u) s (inl f) = inl (none (λ v. absurd (clash v u)) f)
+    go (inl u) (inl s) (inr w) = inr (w .0, List·Memᴰ·tail (w .1), w .2, w .3)
+    go (inr u) s (inr w) = inr (w .0, List·Memᴰ·tail (w .1), w .2, w .3)
