@@ -1,5 +1,6 @@
 -- The theorems. `Operators`, `Contradiction`, `Trees` and `Agreement` have those that README lists; the others serve them.
 pub mod Sets
+pub mod Members
 pub mod Chain
 pub mod Program
 pub mod Supported

@@ -42,3 +42,12 @@ x isIn l = List·Memᴰ x l
 abbrev pub iterate : (Set → Set) → Set → ℕ → Set
 iterate f S zero = S
 iterate f S (suc n) = f (iterate f S n)
+
+-- the members of S among the n numbers from b on, in order
+unfoldable pub membersFrom : Set → ℕ → ℕ → List ℕ
+membersFrom S b zero = []
+membersFrom S b (suc n) = cond (S b) (b ∷ membersFrom S (suc b) n) (membersFrom S (suc b) n)
+
+-- the list of the members of S below n
+abbrev pub members : ℕ → Set → List ℕ
+members n S = membersFrom S 0 n

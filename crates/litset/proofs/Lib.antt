@@ -1,0 +1,4 @@
+-- The laws of a set of literals, over a list of words of any length.
+pub mod Bit
+pub mod Words
+pub mod Ones

@@ -1,0 +1,2 @@
+-- What the contracts of `litset` cite.
+pub mod Words

@@ -1,0 +1,31 @@
+-- A list of words of 64 bits, of any length, as a set of literals.
+use mathlib.Core.Bool.{Bool, not, cond, _&&_}
+use mathlib.Core.List.{List}
+use Prim.Native.Nat.{ℕ, _*_, _/_, _%_, _^_}
+use lib.Dec.{eqb, ltb}
+use lib.ListN.{getD}
+use Rattle.wfsx.specs.Sets.{Set, add}
+
+-- How many words a `LitSet` has: `WORDS` in src/lib.rt is the same number.
+abbrev pub nWords : ℕ
+nWords = 4
+
+-- The literals below this number can be members of a `LitSet`.
+abbrev pub capacity : ℕ
+capacity = 64 * nWords
+
+-- bit k of w
+abbrev pub bit : ℕ → ℕ → Bool
+bit w k = eqb (w / 2 ^ k % 2) 1
+
+-- The literal l is a member where bit l % 64 of word l / 64 is set. Past the last word every word counts as 0.
+unfoldable pub setOf : List ℕ → Set
+setOf ws l = bit (getD ws (l / 64) 0) (l % 64)
+
+-- S with l added, where a `LitSet` has room for l
+unfoldable pub with : ℕ → Set → Set
+with l S = cond (ltb l capacity) (add l S) S
+
+-- S with l taken away
+unfoldable pub without : ℕ → Set → Set
+without l S A = S A && not (eqb A l)

@@ -1,0 +1,100 @@
+// A set of literals by value: the words of a bit set. Every literal number is safe: past the end nothing is a member and nothing changes.
+ghost use mathlib.Core.Path.{_≡_};
+ghost use mathlib.Core.Bool.{true};
+ghost use mathlib.Core.Logic.{_↔_};
+ghost use lib.ListN.{length};
+ghost use Rattle.wfsx.specs.Sets.{∅, _∪_, members};
+ghost use Rattle.litset.specs.Words.{capacity, setOf, with, without};
+
+// How many words a set has. `nWords` in specs/Words.antt is the same number.
+const WORDS: usize = 4;
+
+#[repr(C)]
+pub struct LitSet {
+    pub words: [u64; WORDS],
+}
+
+pub fn empty() -> LitSet
+    ensures { λ r. ⌜ setOf (r .words) ≡ ∅ ⌝ }
+{
+    LitSet {
+        words: [0u64; WORDS],
+    }
+}
+
+pub fn contains(s: LitSet, l: usize) -> bool
+    ensures { λ r. ⌜ r ≡ setOf (s .words) l ⌝ }
+{
+    let i = l / 64;
+    if i < WORDS {
+        (s.words[i] >> (l % 64)) % 2 == 1
+    } else {
+        false
+    }
+}
+
+pub fn insert(s: LitSet, l: usize) -> LitSet
+    ensures { λ r. ⌜ setOf (r .words) ≡ with l (setOf (s .words)) ⌝ }
+{
+    let i = l / 64;
+    if i < WORDS {
+        let mut t = s;
+        t.words[i] = t.words[i] | (1u64 << (l % 64));
+        t
+    } else {
+        s
+    }
+}
+
+pub fn remove(s: LitSet, l: usize) -> LitSet
+    ensures { λ r. ⌜ setOf (r .words) ≡ without l (setOf (s .words)) ⌝ }
+{
+    let i = l / 64;
+    if i < WORDS {
+        let m = 1u64 << (l % 64);
+        let mut t = s;
+        t.words[i] = (t.words[i] | m) ^ m;
+        t
+    } else {
+        s
+    }
+}
+
+pub fn union(a: LitSet, b: LitSet) -> LitSet
+    ensures { λ r. ⌜ setOf (r .words) ≡ setOf (a .words) ∪ setOf (b .words) ⌝ }
+{
+    let mut t = a;
+    let mut i: usize = 0;
+    while i < WORDS {
+        t.words[i] = t.words[i] | b.words[i];
+        i += 1;
+    }
+    t
+}
+
+// Whether the two have the same members.
+pub fn equal(a: LitSet, b: LitSet) -> bool
+    ensures { λ r. ⌜ (r ≡ true) ↔ (setOf (a .words) ≡ setOf (b .words)) ⌝ }
+{
+    let mut i: usize = 0;
+    while i < WORDS {
+        if a.words[i] != b.words[i] {
+            return false;
+        }
+        i += 1;
+    }
+    true
+}
+
+// How many members the set has: the count of ones over its words.
+pub fn count(s: LitSet) -> usize
+    ensures { λ r. ⌜ r ≡ length (members capacity (setOf (s .words))) ⌝ }
+{
+    let mut n: usize = 0;
+    let mut i: usize = 0;
+    while i < WORDS {
+        n += u64::count_ones(s.words[i]) as usize;
+        i += 1;
+    }
+    n
+}

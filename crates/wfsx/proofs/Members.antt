@@ -1,0 +1,80 @@
+-- `members n S` lists the members of S below n and nothing else; its length adds up over parts.
+use mathlib.Core.Path.{_≡_, refl, sym, _∙_, ap, ap₂}
+use mathlib.Core.Logic.{⊎-elim, _↔_}
+use mathlib.Core.Bool.{Bool, true, false, cond}
+use mathlib.Core.List.{List, [], _∷_, List·Memᴰ, List·Memᴰ·head, List·Memᴰ·tail, List·Memᴰ·cases-cons, List·Memᴰ·not-nil}
+use Prim.Native.Nat.{ℕ, zero, suc, _+_, _≤_, _<_}
+use native.Mathlib.Omega.{arith}
+use native.Mathlib.Nat.{zero-lt-suc, zero-add, add-zero, suc-add}
+use native.Mathlib.Decide.{ℕ-discrete}
+use lib.ListN.{length}
+use Rattle.wfsx.specs.Sets.{Set, _∈_, _isIn_, membersFrom, members}
+
+-- ---- what is listed
+
+listed-only : (S : Set) (b n A : ℕ) → A isIn membersFrom S b n → (A ∈ S) × (b ≤ A) × (A < b + n)
+unfolding membersFrom
+listed-only S b zero A m = absurd (List·Memᴰ·not-nil m)
+listed-only S b (suc n) A m = go (λ i. up (listed-only S (suc b) n A i)) (S b) refl m
+  where
+    up : (A ∈ S) × (suc b ≤ A) × (A < suc b + n) → (A ∈ S) × (b ≤ A) × (A < b + suc n)
+    up r = let low = r .1 in let high = r .2 in (r .0, omega arith, omega arith)
+
+    go : (A isIn membersFrom S (suc b) n → (A ∈ S) × (b ≤ A) × (A < b + suc n)) → (t : Bool) → S b ≡ t
+        → A isIn cond t (b ∷ membersFrom S (suc b) n) (membersFrom S (suc b) n) → (A ∈ S) × (b ≤ A) × (A < b + suc n)
+    go rest true e i = ⊎-elim (λ q. (ap S q ∙ e, omega arith, omega arith)) rest (List·Memᴰ·cases-cons i)
+    go rest false e i = rest i
+
+listed : (S : Set) (b n A : ℕ) → A ∈ S → b ≤ A → A < b + n → A isIn membersFrom S b n
+unfolding membersFrom
+listed S b zero A h low high = absurd (omega arith)
+listed S b (suc n) A h low high = go (listed S (suc b) n A h) (ℕ-discrete A b)
+  where
+    later : (t : Bool) → A isIn membersFrom S (suc b) n → A isIn cond t (b ∷ membersFrom S (suc b) n) (membersFrom S (suc b) n)
+    later true m = List·Memᴰ·tail m
+    later false m = m
+
+    go : (suc b ≤ A → A < suc b + n → A isIn membersFrom S (suc b) n) → Dec (A ≡ b)
+        → A isIn cond (S b) (b ∷ membersFrom S (suc b) n) (membersFrom S (suc b) n)
+    go rest (yes e) = rw (ap S (sym e) ∙ h) (List·Memᴰ·head e)
+    go rest (no ne) = later (S b) (rest (omega arith) (omega arith))
+
+pub members-are : (n : ℕ) (S : Set) (A : ℕ) → (A isIn members n S) ↔ ((A ∈ S) × (A < n))
+members-are n S A =
+    (λ m. let r = listed-only S 0 n A m in let high = r .2 in (r .0, omega arith), λ r. let high = r .1 in listed S 0 n A (r .0) (omega arith) (omega arith))
+
+-- ---- how many are listed
+
+pub length-first : (S : Set) (b n : ℕ) → length (membersFrom S b (suc n)) ≡ cond (S b) 1 0 + length (membersFrom S (suc b) n)
+unfolding membersFrom
+length-first S b n = go (S b)
+  where
+    go : (t : Bool) → length (cond t (b ∷ membersFrom S (suc b) n) (membersFrom S (suc b) n)) ≡ cond t 1 0 + length (membersFrom S (suc b) n)
+    go true = omega arith
+    go false = omega arith
+
+pub length-parts : (S : Set) (b m n : ℕ) → length (membersFrom S b (m + n)) ≡ length (membersFrom S b m) + length (membersFrom S (b + m) n)
+unfolding membersFrom
+length-parts S b zero n = simp (zero-add, add-zero)
+length-parts S b (suc m) n =
+    let turn : suc b + m ≡ b + suc m = omega arith in
+    omega (
+      arith,
+      ap (λ (k : ℕ). length (membersFrom S b k)) (suc-add m n),
+      length-first S b (m + n),
+      length-parts S (suc b) m n,
+      length-first S b m,
+      ap (λ (k : ℕ). length (membersFrom S k n)) turn,
+    )
+
+-- the same tests from another start
+pub length-moved : (S U : Set) (b c n : ℕ) → ((i : ℕ) → i < n → S (b + i) ≡ U (c + i)) → length (membersFrom S b n) ≡ length (membersFrom U c n)
+unfolding membersFrom
+length-moved S U b c zero e = refl
+length-moved S U b c (suc n) e =
+    let rest : (i : ℕ) → i < n → S (suc b + i) ≡ U (suc c + i) = λ i h. simp turn (e (suc i) (omega arith)) in
+    length-first S b n ∙ ap₂ (λ (t : Bool) (k : ℕ). cond t 1 0 + k) (simp add-zero at (e 0 (zero-lt-suc n))) (length-moved S U (suc b) (suc c) n rest)
+    ∙ sym (length-first U c n)
+  where
+    turn : (x i : ℕ) → suc x + i ≡ x + suc i
+    turn x i = omega arith
