@@ -1,8 +1,8 @@
 -- The ones of all words are as many as the members.
 use mathlib.Core.Path.{_≡_, refl, sym, ap, ap₂, _∙_}
-use mathlib.Core.Bool.{Bool, true, false, cond}
+use mathlib.Core.Bool.{cond}
 use mathlib.Core.List.{List, [], _∷_}
-use Prim.Native.Nat.{ℕ, zero, suc, _+_, _*_, _/_, _%_, _^_, _≤_, _<_}
+use Prim.Native.Nat.{ℕ, zero, suc, _+_, _*_, _/_, _%_, _^_, _<_}
 use native.Mathlib.Nat.{div-one, mod-lt, zero-lt-suc}
 use native.Mathlib.Numerals.{add-one}
 use native.Mathlib.Omega.{arith}
@@ -11,7 +11,7 @@ use lib.Pow.{shr-lt}
 use lib.Count.{ones, ones-step}
 use lib.Dec.{eqb}
 use lib.ListN.{length, getD, take}
-use Rattle.wfsx.specs.Sets.{Set, membersFrom, members}
+use Rattle.wfsx.specs.Sets.{membersFrom, members}
 use Rattle.wfsx.proofs.Members.{length-first, length-parts, length-moved}
 use Rattle.litset.specs.Words.{bit, setOf}
 use Rattle.litset.proofs.Bit.{bit-half}

@@ -1,18 +1,18 @@
 -- Laws of `setOf`, over a list of words of any length.
 use mathlib.Core.Path.{_≡_, refl, sym, ap, _∙_, fun-ext}
-use mathlib.Core.Bool.{Bool, true, false, not, cond, _&&_, _||_, and-true, and-false, or-true, or-false}
-use mathlib.Core.List.{List, [], _∷_}
+use mathlib.Core.Bool.{Bool, true, false, not, _&&_, _||_, and-true, or-true, or-false}
+use mathlib.Core.List.{List}
 use Prim.Native.Nat.{ℕ, zero, suc, _+_, _*_, _/_, _%_, _^_, _≤_, _<_}
 use native.Mathlib.Omega.{arith}
 use native.Mathlib.Decide.{decLt, ℕ-discrete}
 use lib.Bits.{bitOr}
-use lib.Dec.{eqb, ltb}
+use lib.Dec.{eqb}
 use lib.ListN.{length, getD, set, replicate, length-set, List·getD-eq-default}
-use lib.Seq.{set-out, getD-set-same, getD-set-other, ext-getD}
+use lib.Seq.{getD-set-same, getD-set-other, ext-getD}
 use borrow.Author.Count.{below-none, below-more}
 use borrow.Author.Tests.{eq-eqb, ne-eqb, lt-ltb, le-ltb}
-use native.Mathlib.Nat.{le-refl, le-trans}
-use Rattle.wfsx.specs.Sets.{Set, _∈_, ∅, _∪_, add}
+use native.Mathlib.Nat.{le-refl}
+use Rattle.wfsx.specs.Sets.{Set, ∅, _∪_, add}
 use Rattle.litset.specs.Words.{nWords, capacity, bit, setOf, with, without}
 use Rattle.litset.proofs.Bit.{or-bit, clear, clear-bit, bit-zero, pow-same, pow-other, same-bits}
 

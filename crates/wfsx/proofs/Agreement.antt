@@ -4,17 +4,16 @@
 -- not in I(k), by induction over k and the rounds of Γ, since a TU-tree that holds there derives its literal in Γs(I(k)).
 use mathlib.Core.Path.{_≡_, refl, sym, _∙_, ap, subst}
 use mathlib.Core.Logic.{_⊎_, inl, inr}
-use mathlib.Core.Bool.{Bool, true, false, not, _&&_, _||_}
-use mathlib.Core.List.{List}
-use Prim.Native.Nat.{ℕ, zero, suc, _+_, _≤_, _<_}
+use mathlib.Core.Bool.{true, not, _||_}
+use Prim.Native.Nat.{ℕ, zero, suc, _≤_}
 use native.Mathlib.Omega.{arith}
 use native.Mathlib.Nat.{le-refl}
 use lib.ListN.{length}
 use Rattle.wfsx.specs.Sets.{Set, _∈_, _∉_, _⊆_, ∅, _∪_, add, _isIn_, iterate}
-use Rattle.wfsx.specs.Program.{compl, Entry, positive, default, Program, seminormal}
+use Rattle.wfsx.specs.Program.{Entry, positive, default, Program, seminormal}
 use Rattle.wfsx.specs.Model.{holds, supported, Γ, Γs, I, M, N}
-use Rattle.wfsx.specs.Trees.{T, TU, expansions, pruned, child, node, tree, answer}
-use Rattle.wfsx.proofs.Sets.{clash, decided, not-intro, not-mono, and-intro, or-none, ⊆-antisym, Apart, apart-∅, apart-add, add-∪, outside-add}
+use Rattle.wfsx.specs.Trees.{T, TU, child, tree, answer}
+use Rattle.wfsx.proofs.Sets.{clash, decided, not-intro, not-mono, and-intro, ⊆-antisym, Apart, apart-∅, apart-add, add-∪, outside-add}
 use Rattle.wfsx.proofs.Supported.{heads, supported-map}
 use Rattle.wfsx.proofs.Operators.{round, round-grows, Γ-fixed, I-grows, M-has}
 use Rattle.wfsx.proofs.Trees.{open-heads, fewer, tree-unfolds, holds-at, first-way}

@@ -2,12 +2,12 @@
 -- H, it stands still after as many steps as H has entries: each step before that takes an entry of H in.
 use mathlib.Core.Path.{_≡_, refl}
 use mathlib.Core.Logic.{_⊎_, inl, inr}
-use mathlib.Core.List.{List, [], _∷_}
-use Prim.Native.Nat.{ℕ, zero, suc, _+_, _≤_, _<_, zero-le}
+use mathlib.Core.List.{List}
+use Prim.Native.Nat.{ℕ, zero, suc, _+_, _≤_}
 use native.Mathlib.Omega.{arith}
 use lib.ListN.{length}
 use Rattle.wfsx.specs.Sets.{Set, _∈_, _∉_, _⊆_, ∅, _isIn_, iterate}
-use Rattle.wfsx.proofs.Sets.{clash, ⊆-antisym, ∅⊆, outside, outside-most, outside-falls, first-missing}
+use Rattle.wfsx.proofs.Sets.{clash, ⊆-antisym, outside, outside-most, outside-falls, first-missing}
 
 -- what f keeps true of every set is true of the chain
 pub chain-ind : (f : Set → Set) (Q : ℕ → Type 0) → ((D : Set) → ((A : ℕ) → A ∈ D → Q A) → (A : ℕ) → A ∈ f D → Q A)

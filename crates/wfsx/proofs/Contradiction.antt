@@ -1,16 +1,16 @@
 -- A program has no partial stable model exactly where M holds both literals of a name. A partial stable model contains M, and none holds a literal
 -- with its complement, since Γs blocks each by the other. Where M is consistent, M lies in N: by cases over the derivations, I(k) ⊆ N gives
 -- M ⊆ Γs(I(k)), and that gives I(k + 1) ⊆ N. So M with the literals outside N is a partial stable model, and the least.
-use mathlib.Core.Path.{_≡_, refl, sym, _∙_, ap}
+use mathlib.Core.Path.{_≡_, refl, _∙_, ap}
 use mathlib.Core.Logic.{_⊎_, inl, inr, _↔_}
 use mathlib.Core.Bool.{Bool, true, false, not, cond, _&&_}
-use mathlib.Core.List.{List, [], _∷_, List·Memᴰ, List·Memᴰ·head, List·Memᴰ·tail}
+use mathlib.Core.List.{[], _∷_, List·Memᴰ·head, List·Memᴰ·tail}
 use Prim.Native.Nat.{ℕ, zero, suc, _+_, _*_, _/_}
 use lib.ListN.{length}
 use borrow.Author.Tests.{not-true, not-false}
-use Rattle.wfsx.specs.Sets.{Set, _∈_, _∉_, _⊆_, ∅, _∖_, _isIn_}
-use Rattle.wfsx.specs.Program.{compl, Rule, Program}
-use Rattle.wfsx.specs.Model.{Γ, Γs, I, M, N, Interpretation, PartialStable, Heads⊆, Contradictory, Both, Verdict, is-true, is-false, is-undefined, valueIn, verdict}
+use Rattle.wfsx.specs.Sets.{Set, _∈_, _∉_, _⊆_, _∖_, _isIn_}
+use Rattle.wfsx.specs.Program.{compl, Program}
+use Rattle.wfsx.specs.Model.{Γ, Γs, I, M, N, PartialStable, Heads⊆, Contradictory, Both, is-true, is-false, is-undefined, valueIn, verdict}
 use Rattle.wfsx.proofs.Sets.{clash, contra, refuted, not-mono, and-l, and-r, and-intro, first-missing}
 use Rattle.wfsx.proofs.Program.{compl-even, compl-odd, of-name}
 use Rattle.wfsx.proofs.Supported.{heads}

@@ -1,14 +1,13 @@
 -- Γ and Γs are the least closed sets of the reducts and antitone; so ΓΓs is monotone, the I(k) grow to M, and M is the least fixpoint of ΓΓs.
-use mathlib.Core.Path.{_≡_, refl, sym, _∙_, ap, fun-ext}
-use mathlib.Core.Bool.{Bool, true, false, not, _&&_}
-use mathlib.Core.List.{List, [], _∷_}
-use Prim.Native.Nat.{ℕ, zero, suc, _≤_}
+use mathlib.Core.Path.{_≡_, refl, sym, _∙_, ap}
+use mathlib.Core.Bool.{not, _&&_}
+use Prim.Native.Nat.{ℕ, suc}
 use lib.ListN.{length}
 use borrow.Author.Tests.{not-true}
 use Rattle.wfsx.specs.Sets.{Set, _∈_, _∉_, _⊆_, ∅, _isIn_, iterate}
-use Rattle.wfsx.specs.Program.{compl, Entry, default, Rule, Program, seminormal}
-use Rattle.wfsx.specs.Model.{Closed, LeastClosed, holds, supported, Γ, Γs, I, M, N}
-use Rattle.wfsx.proofs.Sets.{clash, contra, not-intro, and-l, and-r, and-intro, ⊆-antisym}
+use Rattle.wfsx.specs.Program.{compl, Program, seminormal}
+use Rattle.wfsx.specs.Model.{LeastClosed, holds, supported, Γ, Γs, I, M, N}
+use Rattle.wfsx.proofs.Sets.{not-intro, and-l, and-r, and-intro}
 use Rattle.wfsx.proofs.Chain.{chain-ind, chain-grows, chain-inside, chain-stops}
 use Rattle.wfsx.proofs.Supported.{supported-map, holds-map, heads, supported-head, heads-most, supported-seminormal, closed-from, closed-to}
 
@@ -125,8 +124,3 @@ module _ (P : Program) where
 
   pub M-head : (A : ℕ) → A ∈ M P → A isIn heads P
   M-head A h = Γ-head P (N P) A (rw M-from-N at h)
-
-  -- coherence: where A is in M its complement is false
-  pub coherent : (A : ℕ) → A ∈ N P → compl A ∉ M P
-  unfolding N
-  coherent A = Γs-blocks (M P) A

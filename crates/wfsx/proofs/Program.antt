@@ -1,8 +1,8 @@
 -- Laws of the complement.
-use mathlib.Core.Path.{_≡_, refl, _∙_, ap}
+use mathlib.Core.Path.{_≡_, refl}
 use mathlib.Core.Logic.{_⊎_, inl, inr}
-use mathlib.Core.Bool.{Bool, true, false, cond}
-use Prim.Native.Nat.{ℕ, _+_, _-_, _*_, _/_, _%_}
+use mathlib.Core.Bool.{true, false}
+use Prim.Native.Nat.{ℕ, _+_, _*_, _/_, _%_}
 use native.Mathlib.Omega.{arith}
 use lib.Dec.{eqb}
 use borrow.Author.Tests.{eqb-true, eqb-false, eq-eqb, ne-eqb}
@@ -24,10 +24,3 @@ of-name A = go (decided (eqb (A % 2) 0))
     go : (eqb (A % 2) 0 ≡ true) ⊎ (eqb (A % 2) 0 ≡ false) → (A ≡ 2 * (A / 2)) ⊎ (A ≡ 2 * (A / 2) + 1)
     go (inl e) = inl (omega (arith, eqb-true (A % 2) 0 e))
     go (inr e) = let ne : A % 2 ≡ 0 → ⊥ = eqb-false (A % 2) 0 e in inr (omega arith)
-
-pub compl-compl : (A : ℕ) → compl (compl A) ≡ A
-compl-compl A = go (of-name A)
-  where
-    go : (A ≡ 2 * (A / 2)) ⊎ (A ≡ 2 * (A / 2) + 1) → compl (compl A) ≡ A
-    go (inl e) = ap (λ (B : ℕ). compl (compl B)) e ∙ ap compl (compl-even (A / 2)) ∙ compl-odd (A / 2) ∙ omega arith
-    go (inr e) = ap (λ (B : ℕ). compl (compl B)) e ∙ ap compl (compl-odd (A / 2)) ∙ compl-even (A / 2) ∙ omega arith

@@ -2,8 +2,8 @@
 use mathlib.Core.Path.{_≡_, refl, sym, _∙_, ap, fun-ext}
 use mathlib.Core.Logic.{_⊎_, inl, inr}
 use mathlib.Core.Bool.{Bool, true, false, not, _&&_, _||_, true≢false}
-use mathlib.Core.List.{List, [], _∷_, List·Memᴰ, List·Memᴰ·head, List·Memᴰ·tail}
-use Prim.Native.Nat.{ℕ, zero, suc, _+_, _≤_, _<_}
+use mathlib.Core.List.{List, [], _∷_, List·Memᴰ·head, List·Memᴰ·tail}
+use Prim.Native.Nat.{ℕ, zero, suc, _≤_, _<_}
 use native.Mathlib.Omega.{arith}
 use lib.ListN.{length}
 use lib.Dec.{eqb}
@@ -80,9 +80,6 @@ or-map true b {c} {d} f g h = or-l c d (f refl)
 or-map false b {c} {d} f g h = or-r c d (g h)
 
 -- ---- sets
-
-pub ∅⊆ : (S : Set) → ∅ ⊆ S
-∅⊆ S A h = absurd (clash h refl)
 
 pub ⊆-antisym : {S U : Set} → S ⊆ U → U ⊆ S → S ≡ U
 ⊆-antisym f g = fun-ext (λ A. same-test (f A) (g A))

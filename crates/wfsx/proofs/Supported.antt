@@ -1,17 +1,17 @@
 -- Laws of `supported`. Every proof about Γ, Γs and the trees compares two tests by `supported-map` and looks into no rule; only the published
 -- notion of a closed set takes the rules apart.
-use mathlib.Core.Path.{_≡_, refl, sym, _∙_, ap, ap₂}
+use mathlib.Core.Path.{_≡_, refl, sym, _∙_, ap}
 use mathlib.Core.Logic.{_⊎_, inl, inr}
-use mathlib.Core.Bool.{Bool, true, false, not, _&&_, _||_, and-or-distrib-left, and-false}
-use mathlib.Core.List.{List, [], _∷_, List·Memᴰ, List·Memᴰ·head, List·Memᴰ·tail, map}
+use mathlib.Core.Bool.{Bool, true, false, _&&_, _||_, and-or-distrib-left, and-false}
+use mathlib.Core.List.{List, [], _∷_, List·Memᴰ·head, List·Memᴰ·tail, map}
 use Prim.Native.Nat.{ℕ, _≤_}
 use native.Mathlib.Nat.{le-of-eq}
 use lib.ListN.{length, length-map}
 use lib.Dec.{eqb}
 use borrow.Author.Tests.{eqb-true, eq-eqb, not-true}
-use Rattle.wfsx.specs.Sets.{Set, _∈_, _∉_, _⊆_, _isIn_}
-use Rattle.wfsx.specs.Program.{compl, Entry, positive, default, Rule, Program, seminormalRule, seminormal}
-use Rattle.wfsx.specs.Model.{Kept, Closed, holds, every, supported}
+use Rattle.wfsx.specs.Sets.{Set, _∈_, _⊆_, _isIn_}
+use Rattle.wfsx.specs.Program.{compl, Entry, positive, default, Rule, Program, seminormal}
+use Rattle.wfsx.specs.Model.{Closed, holds, every, supported}
 use Rattle.wfsx.proofs.Sets.{clash, decided, not-intro, not-mono, and-l, and-r, and-intro, and-map, or-elim, or-l, or-r, or-map}
 
 -- ---- a test that passes more

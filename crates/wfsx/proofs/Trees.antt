@@ -3,14 +3,13 @@
 -- outside the local ancestors of a TU-tree. Laws elsewhere use the equation and not the depth.
 use mathlib.Core.Path.{_≡_, refl, sym, _∙_, ap, ap₂, fun-ext}
 use mathlib.Core.Bool.{Bool, true, false, not, _&&_, _||_}
-use mathlib.Core.List.{List}
 use Prim.Native.Nat.{ℕ, zero, suc, _+_, _*_, _≤_, _<_}
 use native.Mathlib.Omega.{arith}
 use native.Mathlib.Nat.{mul-le-mul-right, suc-mul}
-use lib.ListN.{length, length-map}
+use lib.ListN.{length}
 use borrow.Author.Tests.{not-true}
-use Rattle.wfsx.specs.Sets.{Set, _∈_, _∉_, _⊆_, ∅, _∪_, add, _isIn_}
-use Rattle.wfsx.specs.Program.{compl, Entry, positive, default, Rule, Program, seminormal}
+use Rattle.wfsx.specs.Sets.{Set, _∈_, _∉_, ∅, _∪_, add, _isIn_}
+use Rattle.wfsx.specs.Program.{compl, Entry, positive, default, Program}
 use Rattle.wfsx.specs.Model.{supported}
 use Rattle.wfsx.specs.Trees.{Tree, T, TU, Search, expansions, pruned, child, node, cut, depth, tree}
 use Rattle.wfsx.proofs.Sets.{clash, refuted, same-if, and-l, and-r, add-∪, outside, outside-most, outside-add}

@@ -1,7 +1,7 @@
 -- Ground extended logic programs (001, section 2; document 01, "The marking file").
-use mathlib.Core.Bool.{Bool, cond}
+use mathlib.Core.Bool.{cond}
 use mathlib.Core.List.{List, [], _∷_, _++_, map}
-use Prim.Native.Nat.{ℕ, _+_, _-_, _*_, _%_}
+use Prim.Native.Nat.{ℕ, _+_, _-_, _%_}
 use lib.Dec.{eqb}
 
 -- Name n has two objective literals, 2n and, explicitly negated, 2n + 1. Each is the complement of the other.

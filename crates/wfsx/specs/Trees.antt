@@ -1,7 +1,6 @@
 -- From a question to its trees: T-trees prove truth, TU-trees non-falsity (document 01, "From a question to its trees"; 001, definitions 3
 -- to 6, pruning rules 1 and 4; 003, section 4, for the leaf that a TU-tree adds). The fixpoint is not used.
 use mathlib.Core.Bool.{Bool, false, not, _&&_, _||_}
-use mathlib.Core.List.{List}
 use Prim.Native.Nat.{ℕ, zero, suc, _+_, _*_}
 use lib.ListN.{length}
 use Rattle.wfsx.specs.Sets.{Set, ∅, _∪_, add}
