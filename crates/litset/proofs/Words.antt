@@ -1,6 +1,6 @@
 -- Laws of `setOf`, over a list of words of any length.
 use mathlib.Core.Path.{_≡_, refl, sym, ap, _∙_, fun-ext}
-use mathlib.Core.Bool.{Bool, true, false, not, _&&_, _||_, and-true, or-true, or-false}
+use mathlib.Core.Bool.{Bool, true, false, not, _&&_, _||_, and-true, or-true, or-false, true≢false}
 use mathlib.Core.List.{List}
 use Prim.Native.Nat.{ℕ, zero, suc, _+_, _*_, _/_, _%_, _^_, _≤_, _<_}
 use native.Mathlib.Omega.{arith}
@@ -12,7 +12,7 @@ use lib.Seq.{getD-set-same, getD-set-other, ext-getD}
 use borrow.Author.Count.{below-none, below-more}
 use borrow.Author.Tests.{eq-eqb, ne-eqb, lt-ltb, le-ltb}
 use native.Mathlib.Nat.{le-refl}
-use Rattle.wfsx.specs.Sets.{Set, ∅, _∪_, add}
+use Rattle.wfsx.specs.Sets.{Set, _∈_, ∅, _∪_, add}
 use Rattle.litset.specs.Words.{nWords, capacity, bit, setOf, with, without}
 use Rattle.litset.proofs.Bit.{or-bit, clear, clear-bit, bit-zero, pow-same, pow-other, same-bits}
 
@@ -21,6 +21,14 @@ use Rattle.litset.proofs.Bit.{or-bit, clear, clear-bit, bit-zero, pow-s
 pub none-past : (ws : List ℕ) (l : ℕ) → length ws ≤ l / 64 → setOf ws l ≡ false
 unfolding setOf
 none-past ws l h = ap (λ (w : ℕ). bit w (l % 64)) (List·getD-eq-default ws 0 h) ∙ bit-zero (l % 64)
+
+-- a member lies below the bits of all words
+pub member-below : (ws : List ℕ) (l : ℕ) → l ∈ setOf ws → l < 64 * length ws
+member-below ws l m = go (decLt (l / 64) (length ws))
+  where
+    go : Dec (l / 64 < length ws) → l < 64 * length ws
+    go (yes h) = omega arith
+    go (no h) = absurd (true≢false (sym m ∙ none-past ws l (omega arith)))
 
 getD-zeros : (n i : ℕ) → _≡_ {A = ℕ} (getD (replicate n 0) i 0) 0
 getD-zeros zero i = refl

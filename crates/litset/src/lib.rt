@@ -9,6 +9,9 @@ ghost use Rattle.litset.specs.Words.{capacity, setOf, with, without};
 // How many words a set has. `nWords` in specs/Words.antt is the same number.
 const WORDS: usize = 4;
 
+// The literals below this number can be members.
+pub const CAPACITY: usize = 64 * WORDS;
+
 #[repr(C)]
 pub struct LitSet {
     pub words: [u64; WORDS],

@@ -4,6 +4,7 @@ pub mod Members
 pub mod Chain
 pub mod Program
 pub mod Supported
+pub mod Facts
 pub mod Operators
 pub mod Contradiction
 pub mod Trees

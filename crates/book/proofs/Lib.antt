@@ -1,0 +1,2 @@
+-- The laws of a book's tables.
+pub mod Rows

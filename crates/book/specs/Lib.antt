@@ -1,0 +1,3 @@
+-- What a book means.
+pub mod Limits
+pub mod Book

@@ -1,0 +1,15 @@
+-- What the tables of a book hold (document 01, "The marking file"). `src/lib.rt` has the same numbers.
+use Prim.Native.Nat.{ℕ, _*_}
+
+abbrev pub maxNames : ℕ
+maxNames = 128
+
+abbrev pub maxRules : ℕ
+maxRules = 512
+
+abbrev pub maxEntries : ℕ
+maxEntries = 2048
+
+-- the bytes of one name
+abbrev pub maxLength : ℕ
+maxLength = 16
