@@ -1,0 +1,3 @@
+-- Laws of the text's definitions.
+pub mod Bytes
+pub mod Places

@@ -1,0 +1,2 @@
+-- What the bytes of a marking file spell.
+pub mod Text

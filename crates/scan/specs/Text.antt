@@ -1,0 +1,111 @@
+-- The text of a marking file: lines and fields, names, the first word of a line, and the form of a literal (document 01, "The marking file").
+use mathlib.Core.Bool.{Bool, true, false, cond, _&&_, _||_}
+use mathlib.Core.List.{List, [], _∷_}
+use Prim.Native.Nat.{ℕ, suc, _-_}
+use lib.Dec.{eqb, leb}
+use lib.ListN.{length, drop}
+use Rattle.scan.specs.declared.Class.{Class}
+use Rattle.scan.specs.declared.Class.the-variants.{Letter, Digit, Underscore, Other}
+use Rattle.scan.specs.declared.Word.{Word}
+use Rattle.scan.specs.declared.Word.the-variants.{Name, Rule, End, Unknown}
+use Rattle.scan.specs.declared.Form.{Form}
+use Rattle.scan.specs.declared.Form.the-variants.{Malformed, Literal}
+
+-- ---- bytes
+
+-- a byte of a file: 10, or 32 to 126
+abbrev pub isText : ℕ → Bool
+isText b = eqb b 10 || (leb 32 b && leb b 126)
+
+-- the class of a byte: a lower-case letter (97 to 122), a digit (48 to 57), an underscore (95), or another
+abbrev pub classOf : ℕ → Class
+classOf b = cond (leb 97 b && leb b 122) Letter (cond (leb 48 b && leb b 57) Digit (cond (eqb b 95) Underscore Other))
+
+abbrev pub isLetter : Class → Bool
+isLetter Letter = true
+isLetter Digit = false
+isLetter Underscore = false
+isLetter Other = false
+
+-- whether a name may have the byte
+abbrev pub inName : Class → Bool
+inName Letter = true
+inName Digit = true
+inName Underscore = true
+inName Other = false
+
+-- every byte passes the test
+unfoldable pub allBytes : (ℕ → Bool) → List ℕ → Bool
+allBytes f [] = true
+allBytes f (x ∷ xs) = f x && allBytes f xs
+
+-- ---- lines and fields
+
+abbrev pub onto : ℕ → List (List ℕ) → List (List ℕ)
+onto x [] = (x ∷ []) ∷ []
+onto x (p ∷ ps) = (x ∷ p) ∷ ps
+
+-- the pieces between the bytes `stop`: one more than there are such bytes
+unfoldable pub split : ℕ → List ℕ → List (List ℕ)
+split stop [] = [] ∷ []
+split stop (x ∷ xs) = cond (eqb x stop) ([] ∷ split stop xs) (onto x (split stop xs))
+
+-- how many bytes stand before the first `stop`
+unfoldable pub lenTo : ℕ → List ℕ → ℕ
+lenTo stop [] = 0
+lenTo stop (x ∷ xs) = cond (eqb x stop) 0 (suc (lenTo stop xs))
+
+-- the fields of a line are parted by commas
+abbrev pub fields : List ℕ → List (List ℕ)
+fields line = split 44 line
+
+-- ---- names
+
+-- a NAME has 1 to 16 bytes, of which the first is a letter
+unfoldable pub isName : List ℕ → Bool
+isName [] = false
+isName (x ∷ xs) = leb (length xs) 15 && (isLetter (classOf x) && allBytes (λ b. inName (classOf b)) xs)
+
+-- ---- the first field
+
+unfoldable pub sameBytes : List ℕ → List ℕ → Bool
+sameBytes [] [] = true
+sameBytes [] (y ∷ ys) = false
+sameBytes (x ∷ xs) [] = false
+sameBytes (x ∷ xs) (y ∷ ys) = eqb x y && sameBytes xs ys
+
+-- the bytes of `name`, `rule` and `end`
+abbrev pub nameWord : List ℕ
+nameWord = 110 ∷ 97 ∷ 109 ∷ 101 ∷ []
+
+abbrev pub ruleWord : List ℕ
+ruleWord = 114 ∷ 117 ∷ 108 ∷ 101 ∷ []
+
+abbrev pub endWord : List ℕ
+endWord = 101 ∷ 110 ∷ 100 ∷ []
+
+unfoldable pub wordOf : List ℕ → Word
+wordOf f = cond (sameBytes f nameWord) Name (cond (sameBytes f ruleWord) Rule (cond (sameBytes f endWord) End Unknown))
+
+-- ---- literals
+
+-- 1 where the byte b stands first, else 0
+abbrev pub lead : ℕ → List ℕ → ℕ
+lead b [] = 0
+lead b (x ∷ xs) = cond (eqb x b) 1 0
+
+-- a literal has an optional `~` (126)
+abbrev pub tildes : List ℕ → ℕ
+tildes f = lead 126 f
+
+-- then an optional `-` (45)
+abbrev pub minuses : List ℕ → ℕ
+minuses f = lead 45 (drop (tildes f) f)
+
+-- then a NAME
+abbrev pub nameOf : List ℕ → List ℕ
+nameOf f = drop (minuses f) (drop (tildes f) f)
+
+-- a field reads as a literal or is malformed
+unfoldable pub formOf : List ℕ → Form
+formOf f = cond (isName (nameOf f)) (Literal (tildes f) (minuses f)) Malformed
