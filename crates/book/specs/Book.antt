@@ -1,15 +1,18 @@
 -- The meaning of a `Book`, whatever its bits: names and rules, and with the facts put in a program (document 01, "The marking file", "From
 -- rules to a model").
-use mathlib.Core.Bool.{cond}
-use mathlib.Core.List.{List, [], _∷_, map}
+use mathlib.Core.Bool.{Bool, cond}
+use mathlib.Core.List.{List, [], _∷_, _++_, map}
 use Prim.Native.Nat.{ℕ, zero, suc, _+_, _-_, _*_, _/_, _%_}
 use lib.Dec.{eqb, ltb}
-use lib.ListN.{getD, take, drop, replicate}
+use lib.ListN.{length, getD, take, drop, replicate}
 use Rattle.wfsx.specs.Sets.{Set, members}
 use Rattle.wfsx.specs.Program.{Entry, positive, default, Rule, Program, withFacts}
 use Rattle.litset.specs.Words.{capacity}
+use Rattle.scan.specs.Text.{sameBytes}
 use Rattle.book.specs.Limits.{maxNames, maxRules, maxEntries, maxLength}
 use Rattle.book.specs.declared.Book.{Book}
+use Rattle.book.specs.declared.Found.{Found}
+use Rattle.book.specs.declared.Found.the-variants.{Nothing, At}
 
 -- the n values f k, f (k + 1), ..
 unfoldable pub rows : {X : Type 0} → (ℕ → X) → ℕ → ℕ → List X
@@ -32,6 +35,18 @@ namesIn text lengths count = rows (nameAt text lengths) 0 count
 
 abbrev pub namesOf : Book → List (List ℕ)
 namesOf b = namesIn (b .text) (b .lengths) (clamp maxNames (b .names))
+
+-- whether two names are the same: refusals 6 and 7 and every look-up go by this
+unfoldable pub sameName : List ℕ → List ℕ → Bool
+sameName a b = sameBytes a b
+
+-- the number of the first of the names, counted from k, that is the same as n
+unfoldable pub findFrom : ℕ → List ℕ → List (List ℕ) → Found
+findFrom k n [] = Nothing
+findFrom k n (m ∷ ms) = cond (sameName m n) (At k) (findFrom (suc k) n ms)
+
+abbrev pub find : List (List ℕ) → List ℕ → Found
+find names n = findFrom 0 n names
 
 -- ---- rules
 
@@ -61,16 +76,54 @@ rulesOf b = rulesIn (b .heads) (b .starts) (b .entries) (clamp maxRules (b .rule
 unfoldable pub programOf : Book → Set → Program
 programOf b facts = withFacts (rulesOf b) (members capacity facts)
 
--- ---- the book with no names and no rules
+-- ---- the tables that hold given names and rules, with zeros behind them
 
-unfoldable pub noBook : Book
-noBook =
+abbrev pub padded : ℕ → List ℕ → List ℕ
+padded n xs = xs ++ replicate (n - length xs) 0
+
+unfoldable pub joined : List (List ℕ) → List ℕ
+joined [] = []
+joined (x ∷ xs) = x ++ joined xs
+
+abbrev pub codeOf : Entry → ℕ
+codeOf (positive B) = 2 * B
+codeOf (default C) = 2 * C + 1
+
+abbrev pub bodyCodes : Rule → List ℕ
+bodyCodes r = map codeOf (r .body)
+
+-- where each body begins, counted from n, and where the last one ends
+unfoldable pub startsFrom : ℕ → List Rule → List ℕ
+startsFrom n [] = n ∷ []
+startsFrom n (r ∷ rs) = n ∷ startsFrom (n + length (r .body)) rs
+
+abbrev pub textTable : List (List ℕ) → List ℕ
+textTable names = padded (maxLength * maxNames) (joined (map (padded maxLength) names))
+
+abbrev pub lengthTable : List (List ℕ) → List ℕ
+lengthTable names = padded maxNames (map length names)
+
+abbrev pub headTable : List Rule → List ℕ
+headTable rules = padded maxRules (map (λ (r : Rule). r .head) rules)
+
+abbrev pub startTable : List Rule → List ℕ
+startTable rules = padded (maxRules + 1) (startsFrom 0 rules)
+
+abbrev pub entryTable : List Rule → List ℕ
+entryTable rules = padded maxEntries (joined (map bodyCodes rules))
+
+unfoldable pub bookOf : List (List ℕ) → List Rule → Book
+bookOf names rules =
     record {
-      names = 0;
-      rules = 0;
-      text = replicate (maxLength * maxNames) 0;
-      lengths = replicate maxNames 0;
-      heads = replicate maxRules 0;
-      starts = replicate (maxRules + 1) 0;
-      entries = replicate maxEntries 0;
+      names = length names;
+      rules = length rules;
+      text = textTable names;
+      lengths = lengthTable names;
+      heads = headTable rules;
+      starts = startTable rules;
+      entries = entryTable rules;
     }
+
+-- the book with no names and no rules
+abbrev pub noBook : Book
+noBook = bookOf [] []
