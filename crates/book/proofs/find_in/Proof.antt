@@ -34,7 +34,7 @@ returns c =
     let a = at .before .before .before .before .before .args in
     let f = nameAt (a .text .now) (a .lengths .now) in
     let hit : sameName (f (at .loop .k)) (a .name .now) ≡ true =
-      ap (λ (x : List ℕ). sameName x (a .name .now)) (sym (c .before .before .name-at .ensures)) ∙ sym (c .before .same-name .ensures) ∙ c .if1 .taken in
+    ap (λ (x : List ℕ). sameName x (a .name .now)) (sym (c .before .before .name-at .ensures)) ∙ sym (c .before .same-name .ensures) ∙ c .if1 .taken in
     sym (find-hit f (a .name .now) (at .loop .k) (at .before .clamped .result) (c .before .before .before .loop-test .taken) hit) ∙ at .loop .inv .1
     ∙ ap (λ (n : ℕ). find (namesIn (a .text .now) (a .lengths .now) n) (a .name .now)) (at .before .clamped .ensures)
 
@@ -50,7 +50,7 @@ loop-again c =
     let a = at .before .before .before .before .before .args in
     let f = nameAt (a .text .now) (a .lengths .now) in
     let miss : sameName (f (at .loop .k)) (a .name .now) ≡ false =
-      ap (λ (x : List ℕ). sameName x (a .name .now)) (sym (c .before .before .name-at .ensures)) ∙ sym (c .before .same-name .ensures) ∙ c .if1 .left in
+    ap (λ (x : List ℕ). sameName x (a .name .now)) (sym (c .before .before .name-at .ensures)) ∙ sym (c .before .same-name .ensures) ∙ c .if1 .left in
     (search needs, sym (find-miss f (a .name .now) (at .loop .k) (at .before .clamped .result) (c .before .before .before .loop-test .taken) miss) ∙ at .loop .inv .1)
 
 returns-2 : tie.Need-returns-2 Inv-loop μ-loop

@@ -33,7 +33,7 @@ returns c =
     let at = c .before .before .before .before .before in
     let s = at .before .before .args .s .now in
     let e : inName (classOf (getD s (at .loop .i) 0)) ≡ false =
-      ap inName (sym (c .before .before .class-of .ensures)) ∙ sym (c .before .in-name .ensures) ∙ not-true (c .before .in-name .result) (c .if1 .taken) in
+    ap inName (sym (c .before .before .class-of .ensures)) ∙ sym (c .before .in-name .ensures) ∙ not-true (c .before .in-name .result) (c .if1 .taken) in
     sym (bytes-stop (λ b. inName (classOf b)) s (at .loop .i) (c .before .before .before .before .loop-test .taken) e) ∙ at .loop .inv .1
 
 add-i : tie.Need-add-i Inv-loop μ-loop
@@ -47,7 +47,7 @@ loop-again c =
     let at = c .before .before .before .before .before in
     let s = at .before .before .args .s .now in
     let e : inName (classOf (getD s (at .loop .i) 0)) ≡ true =
-      ap inName (sym (c .before .before .class-of .ensures)) ∙ sym (c .before .in-name .ensures) ∙ not-false (c .before .in-name .result) (c .if1 .left) in
+    ap inName (sym (c .before .before .class-of .ensures)) ∙ sym (c .before .in-name .ensures) ∙ not-false (c .before .in-name .result) (c .if1 .left) in
     (search needs, sym (bytes-go (λ b. inName (classOf b)) s (at .loop .i) (c .before .before .before .before .loop-test .taken) e) ∙ at .loop .inv .1)
 
 returns-2 : tie.Need-returns-2 Inv-loop μ-loop

@@ -32,13 +32,13 @@ returns : tie.Need-returns
 returns c =
     let z = c .before .before .before in
     sym (form-literal (z .before .before .before .args .f .now) (z .before .skip .result) (z .skip2 .result) (z .before .skip .ensures .0 ∙ zero-add _) (z .skip2 .ensures .0)
-      (sym (c .before .is-name .ensures) ∙ c .if1 .taken))
+    (sym (c .before .is-name .ensures) ∙ c .if1 .taken))
 
 returns-2 : tie.Need-returns-2
 returns-2 c =
     let z = c .before .before .before in
     sym (form-malformed (z .before .before .before .args .f .now) (z .before .skip .result) (z .skip2 .result) (z .before .skip .ensures .0 ∙ zero-add _) (z .skip2 .ensures .0)
-      (sym (c .before .is-name .ensures) ∙ c .if1 .left))
+    (sym (c .before .is-name .ensures) ∙ c .if1 .left))
 
 pub form-of-spec : {M : Type 1} → statement M
 form-of-spec =

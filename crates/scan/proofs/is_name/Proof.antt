@@ -29,7 +29,7 @@ returns-3 c =
     let at = c .before .before .before .before in
     let s = at .before .before .before .args .s .now in
     let e : isLetter (classOf (getD s 0 0)) ≡ false =
-      ap isLetter (sym (c .before .before .class-of .ensures)) ∙ sym (c .before .is-letter .ensures) ∙ not-true (c .before .is-letter .result) (c .if3 .taken) in
+    ap isLetter (sym (c .before .before .class-of .ensures)) ∙ sym (c .before .is-letter .ensures) ∙ not-true (c .before .is-letter .result) (c .if3 .taken) in
     sym (name-first s (at .if2 .left) e)
 
 sub-all-in-name : tie.Need-sub-all-in-name
@@ -50,7 +50,7 @@ returns-4 c =
     let at = d .before .before .before .before in
     let s = at .before .before .before .args .s .now in
     let e : isLetter (classOf (getD s 0 0)) ≡ true =
-      ap isLetter (sym (d .before .before .class-of .ensures)) ∙ sym (d .before .is-letter .ensures) ∙ not-false (d .before .is-letter .result) (d .if3 .left) in
+    ap isLetter (sym (d .before .before .class-of .ensures)) ∙ sym (d .before .is-letter .ensures) ∙ not-false (d .before .is-letter .result) (d .if3 .left) in
     c .all-in-name .ensures ∙ sym (name-rest s (at .before .if1 .left) (at .if2 .left) e)
 
 pub is-name-spec : {M : Type 1} → statement M

@@ -37,8 +37,8 @@ loop-again c =
     let s = at .before .args .s .now in
     let stop = at .before .args .stop in
     ⊎-elim (λ w. omega (arith, split-here stop s (at .loop .i) (c .before .before .loop-test .taken) (w .0 .taken)))
-      (λ w. omega (arith, split-more stop s (at .loop .i) (c .before .before .loop-test .taken) (w .0 .left)))
-      (c .if1 .came)
+    (λ w. omega (arith, split-more stop s (at .loop .i) (c .before .before .loop-test .taken) (w .0 .left)))
+    (c .if1 .came)
 
 add-result : tie.Need-add-result Inv-loop μ-loop
 add-result c = search needs

@@ -36,14 +36,14 @@ returns-3 c =
     let d = c .before .before .before in
     let e = d .before .before .before in
     sym (word-end _ (sym (e .before .same-bytes .ensures) ∙ e .if1 .left) (sym (d .before .same-bytes2 .ensures) ∙ d .if2 .left)
-      (sym (c .before .same-bytes3 .ensures) ∙ c .if3 .taken))
+    (sym (c .before .same-bytes3 .ensures) ∙ c .if3 .taken))
 
 returns-4 : tie.Need-returns-4
 returns-4 c =
     let d = c .before .before .before in
     let e = d .before .before .before in
     sym (word-unknown _ (sym (e .before .same-bytes .ensures) ∙ e .if1 .left) (sym (d .before .same-bytes2 .ensures) ∙ d .if2 .left)
-      (sym (c .before .same-bytes3 .ensures) ∙ c .if3 .left))
+    (sym (c .before .same-bytes3 .ensures) ∙ c .if3 .left))
 
 pub word-of-spec : {M : Type 1} → statement M
 word-of-spec =

@@ -1,0 +1,3 @@
+-- What a marking file says.
+pub mod File
+pub mod Loading
