@@ -1,3 +1,5 @@
 -- The laws of a book's tables.
 pub mod Rows
 pub mod Lookup
+pub mod Tables
+pub mod Back
