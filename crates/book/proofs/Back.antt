@@ -27,7 +27,7 @@ rows-from f d j (x ∷ xs) h =
     ap₂ (λ y l. y ∷ l) (ap f (sym (add-zero j)) ∙ h 0 (omega arith))
     (rows-from f d (suc j) xs (λ k l. ap f (suc-add j k ∙ sym (add-suc j k)) ∙ h (suc k) (omega arith)))
 
-clamp-least : (most n : ℕ) → n ≤ most → clamp most n ≡ n
+pub clamp-least : (most n : ℕ) → n ≤ most → clamp most n ≡ n
 clamp-least most n h = go (decLt n most)
   where
     go : Dec (n < most) → clamp most n ≡ n

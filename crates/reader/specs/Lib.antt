@@ -1,3 +1,4 @@
 -- What a marking file says.
 pub mod File
 pub mod Loading
+pub mod Steps

@@ -1,8 +1,21 @@
 // A marking file of whatever bytes becomes a book, or is refused under its number and line.
 ghost use mathlib.Core.Path.{_≡_};
-ghost use Rattle.reader.specs.File.{readFile, refused};
+ghost use mathlib.Core.Bool.{true, false};
+ghost use mathlib.Core.List.{List, map};
+ghost use Prim.Native.Nat.{ℕ, _+_, _≤_};
+ghost use lib.ListN.{length, set};
+ghost use lib.Seq.{sets};
+ghost use Rattle.wfsx.specs.Program.{Rule};
+ghost use Rattle.scan.specs.Text.{split, rest, fields};
+ghost use Rattle.book.specs.Limits.{maxNames};
+ghost use Rattle.book.specs.Book.{clamp, namesIn, codeOf};
+ghost use Rattle.reader.specs.File.{Content, entryFrom, readLines, nothingYet, readFile, refused};
 ghost use Rattle.reader.specs.Loading.{loadedOf};
+ghost use Rattle.reader.specs.Steps.{NameTable, RuleTable, Holds, formFault, knownFault, knownOf, NameRead, RuleRead, LineRead};
 use book::Book;
+use book::Found;
+use scan::Form;
+use scan::Word;
 
 pub enum Answer {
     Accepted,
@@ -22,4 +35,324 @@ fn refusal(number: u8, line: usize) -> Loaded
         answer: Answer::Refused { number, line },
         book: book::no_book(),
     }
+}
+
+// ---- stores; past the end nothing changes
+
+fn put8(t: &mut [u8], i: usize, v: u8)
+    ensures { λ r. ⌜ now (t .exit) ≡ set (now (t .entry)) i v ⌝ }
+{
+    if i < t.len() {
+        t[i] = v;
+    }
+}
+
+fn put16(t: &mut [u16], i: usize, v: u16)
+    ensures { λ r. ⌜ now (t .exit) ≡ set (now (t .entry)) i v ⌝ }
+{
+    if i < t.len() {
+        t[i] = v;
+    }
+}
+
+fn put_all(t: &mut [u8], at: usize, s: &[u8])
+    requires { ⌜ at + length (now s) ≤ 65536 ⌝ }
+    ensures { λ r. ⌜ now (t .exit) ≡ sets (now (t .entry)) at (now (s .entry)) ⌝ }
+{
+    let mut i = 0;
+    while i < s.len() {
+        put8(t, at + i, s[i]);
+        i += 1;
+    }
+}
+
+// ---- a name's line
+
+// The fault of a NAME, or 0 where it was added to the table.
+fn name_line(count: usize, text: &mut [u8], lengths: &mut [u8], name: &[u8]) -> u8
+    ensures { λ r. ⌜ ((names : List (List ℕ)) → NameTable names count (now (text .entry)) (now (lengths .entry)) → NameRead names count (now (name .entry)) r (now (text .exit)) (now (lengths .exit))) ⌝ }
+{
+    if !scan::is_name(name) {
+        return 5;
+    }
+    let Found::Nothing = book::find_in(text, lengths, count, name) else {
+        return 6;
+    };
+    if 128 <= count {
+        return 8;
+    }
+    put_all(text, 16 * count, name);
+    put8(lengths, count, name.len() as u8);
+    0
+}
+
+// ---- a rule's line
+
+// 5 where a field from place `from` on is malformed.
+fn form_fault(line: &[u8], from: usize) -> u8
+    requires { ⌜ from ≤ length (now line) + 1 ⌝ }
+    ensures { λ r. ⌜ r ≡ formFault (rest 44 (now (line .entry)) from) ⌝ }
+{
+    let mut p = from;
+    while p <= line.len() {
+        let e = scan::end_of(line, p, b',');
+        let Form::Literal {
+            tildes: _,
+            minuses: _,
+        } = scan::form_of(&line[p..e])
+        else {
+            return 5;
+        };
+        p = e + 1;
+    }
+    0
+}
+
+// A field's name looked up: its literal, and how many `~` stand before it.
+pub enum Known {
+    Undeclared,
+    Entry { literal: usize, tildes: usize },
+}
+
+fn known_of(text: &[u8], lengths: &[u8], count: usize, f: &[u8]) -> Known
+    ensures { λ r. ⌜ r ≡ knownOf (namesIn (now (text .entry)) (now (lengths .entry)) (clamp maxNames count)) (now (f .entry)) ⌝ }
+{
+    let m = scan::marks_of(f);
+    let from = m.tildes + m.minuses;
+    let Found::At(i) = book::find_in(text, lengths, count, &f[from..]) else {
+        return Known::Undeclared;
+    };
+    Known::Entry {
+        literal: 2 * i + m.minuses,
+        tildes: m.tildes,
+    }
+}
+
+// 7 where a field from place `from` on has an undeclared name; otherwise its entries stand from `at` on.
+fn body_entries(
+    text: &[u8],
+    lengths: &[u8],
+    count: usize,
+    entries: &mut [u16],
+    at: usize,
+    line: &[u8],
+    from: usize,
+) -> u8
+    requires { ⌜ (from ≤ length (now line) + 1) × (at ≤ 2048) ⌝ }
+    ensures { λ r. ⌜ (r ≡ knownFault (namesIn (now (text .entry)) (now (lengths .entry)) (clamp maxNames count)) (rest 44 (now (line .entry)) from)) × (r ≡ 0 → now (entries .exit) ≡ sets (now (entries .entry)) at (map (λ f. codeOf (entryFrom (namesIn (now (text .entry)) (now (lengths .entry)) (clamp maxNames count)) f)) (rest 44 (now (line .entry)) from))) ⌝ }
+{
+    let mut k = at;
+    let mut p = from;
+    while p <= line.len() {
+        let e = scan::end_of(line, p, b',');
+        let Known::Entry { literal, tildes } = known_of(text, lengths, count, &line[p..e]) else {
+            return 7;
+        };
+        put16(entries, k, (2 * literal + tildes) as u16);
+        k += 1;
+        p = e + 1;
+    }
+    0
+}
+
+// The fault of a rule whose head stands at `from` with n body literals behind it, or 0 where it was added to the tables.
+fn rule_line(
+    t: Counts,
+    text: &[u8],
+    lengths: &[u8],
+    heads: &mut [u16],
+    starts: &mut [u16],
+    entries: &mut [u16],
+    line: &[u8],
+    from: usize,
+    n: usize,
+) -> u8
+    requires { ⌜ (t .used ≤ 2048) × (n ≤ 16) × (from ≤ length (now line)) × (n + 1 ≡ length (rest 44 (now line) from)) ⌝ }
+    ensures { λ r. ⌜ ((names : List (List ℕ)) (rules : List Rule) → NameTable names (t .names) (now (text .entry)) (now (lengths .entry)) → RuleTable rules (t .rules) (t .used) (now (heads .entry)) (now (starts .entry)) (now (entries .entry)) → RuleRead names rules (t .rules) (t .used) n (rest 44 (now (line .entry)) from) r (now (heads .exit)) (now (starts .exit)) (now (entries .exit))) ⌝ }
+{
+    let e = scan::end_of(line, from, b',');
+    let Form::Literal { tildes, minuses: _ } = scan::form_of(&line[from..e]) else {
+        return 5;
+    };
+    if tildes != 0 {
+        return 5;
+    }
+    if form_fault(line, e + 1) != 0 {
+        return 5;
+    }
+    let Known::Entry { literal, tildes: _ } = known_of(text, lengths, t.names, &line[from..e])
+    else {
+        return 7;
+    };
+    if body_entries(text, lengths, t.names, entries, t.used, line, e + 1) != 0 {
+        return 7;
+    }
+    let rules = t.rules;
+    if 512 <= rules {
+        return 8;
+    }
+    let end = t.used + n;
+    if 2048 < end {
+        return 8;
+    }
+    put16(heads, rules, literal as u16);
+    put16(starts, rules + 1, end as u16);
+    0
+}
+
+// ---- a line, the lines, the file
+
+// How much has been read.
+pub struct Counts {
+    pub names: usize,
+    pub rules: usize,
+    pub used: usize,
+    pub ended: bool,
+}
+
+// A line without a fault, with the counts behind it, or its fault.
+pub enum Judged {
+    Fine(Counts),
+    Fault(u8),
+}
+
+fn judge(
+    t: Counts,
+    text: &mut [u8],
+    lengths: &mut [u8],
+    heads: &mut [u16],
+    starts: &mut [u16],
+    entries: &mut [u16],
+    line: &[u8],
+) -> Judged
+    requires { ⌜ (t .names ≤ 128) × (t .rules ≤ 512) × (t .used ≤ 2048) ⌝ }
+    ensures { λ r. ⌜ ((d : Content) → Holds d t (now (text .entry)) (now (lengths .entry)) (now (heads .entry)) (now (starts .entry)) (now (entries .entry)) → LineRead d (fields (now (line .entry))) r (now (text .exit)) (now (lengths .exit)) (now (heads .exit)) (now (starts .exit)) (now (entries .exit))) ⌝ }
+{
+    if t.ended {
+        return Judged::Fault(9);
+    }
+    let e = scan::end_of(line, 0, b',');
+    let n = scan::pieces(line, b',');
+    match scan::word_of(&line[0..e]) {
+        Word::Name => {
+            if n != 2 {
+                return Judged::Fault(4);
+            }
+            let f = scan::end_of(line, e + 1, b',');
+            let v = name_line(t.names, text, lengths, &line[e + 1..f]);
+            if v != 0 {
+                return Judged::Fault(v);
+            }
+            Judged::Fine(Counts {
+                names: t.names + 1,
+                rules: t.rules,
+                used: t.used,
+                ended: false,
+            })
+        }
+        Word::Rule => {
+            if n < 2 {
+                return Judged::Fault(4);
+            }
+            if 18 < n {
+                return Judged::Fault(4);
+            }
+            let v = rule_line(t, text, lengths, heads, starts, entries, line, e + 1, n - 2);
+            if v != 0 {
+                return Judged::Fault(v);
+            }
+            Judged::Fine(Counts {
+                names: t.names,
+                rules: t.rules + 1,
+                used: t.used + (n - 2),
+                ended: false,
+            })
+        }
+        Word::End => {
+            if n != 1 {
+                return Judged::Fault(4);
+            }
+            Judged::Fine(Counts {
+                names: t.names,
+                rules: t.rules,
+                used: t.used,
+                ended: true,
+            })
+        }
+        Word::Unknown => Judged::Fault(4),
+    }
+}
+
+// The lines of b, which is the file without its last byte.
+fn lines(b: &[u8]) -> Loaded
+    ensures { λ r. ⌜ r ≡ loadedOf (readLines nothingYet 1 (split 10 (now (b .entry)))) ⌝ }
+{
+    let mut text = [0u8; 2048];
+    let mut lengths = [0u8; 128];
+    let mut heads = [0u16; 512];
+    let mut starts = [0u16; 513];
+    let mut entries = [0u16; 2048];
+    let mut t = Counts {
+        names: 0,
+        rules: 0,
+        used: 0,
+        ended: false,
+    };
+    let mut at = 0;
+    let mut number = 1;
+    while at <= b.len() {
+        let e = scan::end_of(b, at, 10);
+        match judge(
+            t,
+            &mut text,
+            &mut lengths,
+            &mut heads,
+            &mut starts,
+            &mut entries,
+            &b[at..e],
+        ) {
+            Judged::Fine(u) => {
+                t = u;
+            }
+            Judged::Fault(k) => {
+                return refusal(k, number);
+            }
+        }
+        at = e + 1;
+        number += 1;
+    }
+    if !t.ended {
+        return refusal(9, number);
+    }
+    Loaded {
+        answer: Answer::Accepted,
+        book: Book {
+            names: t.names,
+            rules: t.rules,
+            text,
+            lengths,
+            heads,
+            starts,
+            entries,
+        },
+    }
+}
+
+pub fn read(file: &[u8]) -> Loaded
+    ensures { λ r. ⌜ r ≡ loadedOf (readFile (now (file .entry))) ⌝ }
+{
+    let n = file.len();
+    if 60000 < n {
+        return refusal(1, 0);
+    }
+    if !scan::all_text(file) {
+        return refusal(2, 0);
+    }
+    if n == 0 {
+        return refusal(3, 0);
+    }
+    if file[n - 1] != 10 {
+        return refusal(3, 0);
+    }
+    lines(&file[0..n - 1])
 }

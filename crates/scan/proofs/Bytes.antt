@@ -7,7 +7,7 @@ use native.Mathlib.Omega.{arith}
 use lib.ListN.{length, getD, take, drop, length-drop, drop-of-length-le}
 use lib.Seq.{take-all, drop-drop}
 use lib.Dec.{eqb, leb}
-use borrow.Author.Tests.{eq-eqb, ne-eqb, le-leb, lt-leb, eqb-true}
+use borrow.Author.Tests.{eq-eqb, ne-eqb, le-leb, lt-leb, eqb-true, leb-true}
 use Rattle.scan.specs.Text.{classOf, isLetter, inName, allBytes, isName, sameBytes, nameWord, ruleWord, endWord, wordOf, lead, tildes, minuses, nameOf, formOf}
 use Rattle.scan.specs.declared.Word.the-variants.{Name, Rule, End, Unknown}
 use Rattle.scan.specs.declared.Form.the-variants.{Malformed, Literal}
@@ -52,6 +52,15 @@ pub name-rest : (s : List ℕ) → (length s ≡ 0 → ⊥) → length s ≤ 16 
 unfolding isName
 name-rest [] n h e = absurd (n refl)
 name-rest (x ∷ xs) n h e = rw (le-leb (length xs) 15 (omega arith), e, take-all (suc (length xs) - 1) xs (omega arith))
+
+pub name-fits : (s : List ℕ) → isName s ≡ true → (1 ≤ length s) × (length s ≤ 16)
+unfolding isName
+name-fits [] e = absurd (true≢false (sym e))
+name-fits (x ∷ xs) e = go (leb (length xs) 15) refl
+  where
+    go : (t : Bool) → leb (length xs) 15 ≡ t → (1 ≤ suc (length xs)) × (suc (length xs) ≤ 16)
+    go true h = (omega arith, omega (arith, leb-true (length xs) 15 h))
+    go false h = absurd (true≢false (sym (ap (λ (b : Bool). b && (isLetter (classOf x) && allBytes (λ y. inName (classOf y)) xs)) (sym h) ∙ e)))
 
 -- ---- the same bytes
 
@@ -111,19 +120,25 @@ lead-other b s at h e = rw (left-at s at h, ne-eqb (getD s at 0) b e)
 pub lead-end : (b : ℕ) (s : List ℕ) (at : ℕ) → length s ≤ at → lead b (drop at s) ≡ 0
 lead-end b s at h = rw (drop-of-length-le s h)
 
-module _ (f : List ℕ) (a b : ℕ) (ea : a ≡ tildes f) (eb : b ≡ a + lead 45 (drop a f)) where
-  pub name-from : nameOf f ≡ take (length f - b) (drop b f)
-  name-from =
-      let minus : minuses f ≡ lead 45 (drop a f) = ap (λ (n : ℕ). lead 45 (drop n f)) (sym ea) in
-      let place : tildes f + minuses f ≡ b = omega (arith, minus) in
-      drop-drop (minuses f) (tildes f) f ∙ ap (λ (n : ℕ). drop n f) place ∙ sym (take-all (length f - b) (drop b f) (omega (arith, length-drop b f)))
+-- at most one `~` and one `-`
+pub lead-most : (b : ℕ) (s : List ℕ) → lead b s ≤ 1
+lead-most b [] = omega arith
+lead-most b (x ∷ xs) = go (eqb x b)
+  where
+    go : (t : Bool) → cond t 1 0 ≤ 1
+    go true = omega arith
+    go false = omega arith
 
-  pub form-malformed : isName (take (length f - b) (drop b f)) ≡ false → formOf f ≡ Malformed
+module _ (f : List ℕ) (a b : ℕ) (ea : a ≡ tildes f) (eb : b ≡ minuses f) where
+  pub name-from : nameOf f ≡ take (length f - (a + b)) (drop (a + b) f)
+  name-from =
+      drop-drop (minuses f) (tildes f) f ∙ ap₂ (λ (x y : ℕ). drop (x + y) f) (sym ea) (sym eb)
+      ∙ sym (take-all (length f - (a + b)) (drop (a + b) f) (omega (arith, length-drop (a + b) f)))
+
+  pub form-malformed : isName (take (length f - (a + b)) (drop (a + b) f)) ≡ false → formOf f ≡ Malformed
   unfolding formOf
   form-malformed h = rw (ap isName name-from ∙ h)
 
-  pub form-literal : isName (take (length f - b) (drop b f)) ≡ true → formOf f ≡ Literal a (b - a)
+  pub form-literal : isName (take (length f - (a + b)) (drop (a + b) f)) ≡ true → formOf f ≡ Literal a b
   unfolding formOf
-  form-literal h =
-      let minus : minuses f ≡ b - a = ap (λ (n : ℕ). lead 45 (drop n f)) (sym ea) ∙ omega arith in
-      rw (ap isName name-from ∙ h) (ap₂ Literal (sym ea) minus)
+  form-literal h = rw (ap isName name-from ∙ h) (ap₂ Literal (sym ea) (sym eb))

@@ -10,15 +10,11 @@ use lib.ListN.{length, getD, take, drop, drop-of-length-le}
 use lib.Seq.{drop-cons}
 use lib.Dec.{leb, eqb, leb·zero, leb·suc-suc}
 use borrow.Author.Tests.{eq-eqb, ne-eqb, le-leb, lt-leb, leb-true}
-use Rattle.scan.specs.Text.{onto, split, lenTo}
+use Rattle.scan.specs.Text.{onto, split, lenTo, rest}
 
 -- what is left at i is the element there and what is left at i + 1
 pub left-at : (s : List ℕ) (i : ℕ) → i < length s → drop i s ≡ getD s i 0 ∷ drop (i + 1) s
 left-at s i h = rw (add-one, drop-cons s i 0)
-
--- the pieces from place p on, where a piece begins at p: none past the end
-abbrev pub rest : ℕ → List ℕ → ℕ → List (List ℕ)
-rest stop l p = cond (leb p (length l)) (split stop (drop p l)) []
 
 -- ---- the end of a piece
 

@@ -55,6 +55,10 @@ unfoldable pub lenTo : ℕ → List ℕ → ℕ
 lenTo stop [] = 0
 lenTo stop (x ∷ xs) = cond (eqb x stop) 0 (suc (lenTo stop xs))
 
+-- the pieces from place p on, where a piece begins at p: none past the end
+abbrev pub rest : ℕ → List ℕ → ℕ → List (List ℕ)
+rest stop l p = cond (leb p (length l)) (split stop (drop p l)) []
+
 -- the fields of a line are parted by commas
 abbrev pub fields : List ℕ → List (List ℕ)
 fields line = split 44 line

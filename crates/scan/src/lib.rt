@@ -2,7 +2,7 @@
 ghost use mathlib.Core.Path.{_≡_};
 ghost use Prim.Native.Nat.{_+_, _≤_};
 ghost use lib.ListN.{length, drop};
-ghost use Rattle.scan.specs.Text.{isText, classOf, isLetter, inName, allBytes, split, lenTo, isName, sameBytes, wordOf, lead, formOf};
+ghost use Rattle.scan.specs.Text.{isText, classOf, isLetter, inName, allBytes, split, lenTo, isName, sameBytes, wordOf, lead, tildes, minuses, formOf};
 
 // What a byte may be in a name.
 pub enum Class {
@@ -167,7 +167,24 @@ fn skip(s: &[u8], at: usize, b: u8) -> usize
     at
 }
 
-// A field of a rule as a literal: how many `~` and how many `-` stand before its name, or malformed.
+// How many `~` and how many `-` stand before a literal's name.
+pub struct Marks {
+    pub tildes: usize,
+    pub minuses: usize,
+}
+
+pub fn marks_of(f: &[u8]) -> Marks
+    ensures { λ r. ⌜ (r .tildes ≡ tildes (now (f .entry))) × (r .minuses ≡ minuses (now (f .entry))) × (r .tildes + r .minuses ≤ length (now (f .entry))) ⌝ }
+{
+    let a = skip(f, 0, b'~');
+    let b = skip(f, a, b'-');
+    Marks {
+        tildes: a,
+        minuses: b - a,
+    }
+}
+
+// A field of a rule reads as a literal, or is malformed.
 pub enum Form {
     Malformed,
     Literal { tildes: usize, minuses: usize },
@@ -176,12 +193,12 @@ pub enum Form {
 pub fn form_of(f: &[u8]) -> Form
     ensures { λ r. ⌜ r ≡ formOf (now (f .entry)) ⌝ }
 {
-    let a = skip(f, 0, b'~');
-    let b = skip(f, a, b'-');
-    if is_name(&f[b..]) {
+    let m = marks_of(f);
+    let from = m.tildes + m.minuses;
+    if is_name(&f[from..]) {
         Form::Literal {
-            tildes: a,
-            minuses: b - a,
+            tildes: m.tildes,
+            minuses: m.minuses,
         }
     } else {
         Form::Malformed

@@ -1,0 +1,183 @@
+-- Laws over the fields of a line: for a loop that has come to the field at place p, which ends at e, and for a field's name looked up.
+use mathlib.Core.Path.{_≡_, refl, sym, ap, ap₂, _∙_}
+use mathlib.Core.Bool.{Bool, true, false, not, cond, _&&_, true≢false}
+use mathlib.Core.List.{List, [], _∷_, map}
+use Prim.Native.Nat.{ℕ, zero, suc, _+_, _-_, _*_, _≤_, _<_}
+use native.Mathlib.Omega.{arith}
+use native.Mathlib.Nat.{suc-add, zero-add}
+use native.Mathlib.Numerals.{add-one}
+use lib.ListN.{length, take, drop, set}
+use lib.Seq.{sets}
+use lib.Dec.{eqb, ltb}
+use borrow.Author.Tests.{lt-ltb, le-ltb, eq-eqb, ne-eqb, ltb-true}
+use Rattle.wfsx.specs.Program.{positive, default}
+use Rattle.scan.specs.Text.{isName, lenTo, rest, tildes, minuses, nameOf, formOf}
+use Rattle.scan.specs.declared.Form.{Form}
+use Rattle.scan.specs.declared.Form.the-variants.{Malformed, Literal}
+use Rattle.scan.proofs.Places.{rest-step, rest-none}
+use Rattle.scan.proofs.Bytes.{lead-most, name-from}
+use Rattle.book.specs.Limits.{maxNames}
+use Rattle.book.specs.Book.{rows, clamp, nameAt, namesIn, sameName, findFrom, find, codeOf}
+use Rattle.book.specs.declared.Found.{Found}
+use Rattle.book.specs.declared.Found.the-variants.{Nothing, At}
+use Rattle.reader.specs.File.{allFields, isLiteral, hasTilde, declared, isFound, numberIn, literalNumber, entryFrom}
+use Rattle.reader.specs.Steps.{knownBy, knownOf}
+use Rattle.reader.specs.declared.Known.{Known}
+use Rattle.reader.specs.declared.Known.the-variants.{Undeclared, Entry}
+
+-- ---- a test of every field
+
+module _ (f : List ℕ → Bool) (l : List ℕ) (p : ℕ) where
+  module _ (e : ℕ) (h : p ≤ length l) (q : e ≡ p + lenTo 44 (drop p l)) where
+    pub fields-go : f (take (e - p) (drop p l)) ≡ true → allFields f (rest 44 l p) ≡ allFields f (rest 44 l (e + 1))
+    unfolding allFields
+    fields-go t = ap (allFields f) (rest-step 44 l p e h q) ∙ rw t
+
+    pub fields-stop : f (take (e - p) (drop p l)) ≡ false → allFields f (rest 44 l p) ≡ false
+    unfolding allFields
+    fields-stop t = ap (allFields f) (rest-step 44 l p e h q) ∙ rw t
+
+  pub fields-end : length l < p → allFields f (rest 44 l p) ≡ true
+  unfolding allFields
+  fields-end h = ap (allFields f) (rest-none 44 l p h)
+
+-- ---- the form of a field
+
+is-literal : Form → Bool
+is-literal Malformed = false
+is-literal (Literal a b) = true
+
+form-test : (f : List ℕ) → isLiteral f ≡ is-literal (formOf f)
+unfolding formOf is-literal
+form-test f = go (isName (nameOf f))
+  where
+    go : (t : Bool) → t ≡ is-literal (cond t (Literal (tildes f) (minuses f)) Malformed)
+    go true = refl
+    go false = refl
+
+pub malformed-form : (f : List ℕ) → formOf f ≡ Malformed → isLiteral f ≡ false
+unfolding is-literal
+malformed-form f e = form-test f ∙ ap is-literal e
+
+pub literal-form : (f : List ℕ) (a b : ℕ) → formOf f ≡ Literal a b → isLiteral f ≡ true
+unfolding is-literal
+literal-form f a b e = form-test f ∙ ap is-literal e
+
+tildes-in : Form → ℕ
+tildes-in Malformed = 0
+tildes-in (Literal a b) = a
+
+pub form-tildes : (f : List ℕ) (a b : ℕ) → formOf f ≡ Literal a b → tildes f ≡ a
+unfolding formOf tildes-in
+form-tildes f a b e = go (isName (nameOf f)) refl
+  where
+    go : (t : Bool) → isName (nameOf f) ≡ t → tildes f ≡ a
+    go true h = ap tildes-in (sym (ap (λ (x : Bool). cond x (Literal (tildes f) (minuses f)) Malformed) h) ∙ e)
+    go false h = absurd (true≢false (sym (literal-form f a b e) ∙ h))
+
+-- ---- a name looked up
+
+rows-length : {X : Type 0} (f : ℕ → X) (k n : ℕ) → length (rows f k n) ≡ n
+unfolding rows
+rows-length f k zero = refl
+rows-length f k (suc n) = ap suc (rows-length f (suc k) n)
+
+find-below : (names : List (List ℕ)) (n : List ℕ) (k i : ℕ) → findFrom k n names ≡ At i → i < k + length names
+unfolding findFrom
+find-below [] n k i e = absurd (nothing e)
+  where
+    nothing : Nothing ≡ At i → ⊥
+    nothing q = let z : _≡_ {A = ℕ} 0 1 = cc in omega arith
+find-below (m ∷ names) n k i e = go (sameName m n) refl (find-below names n (suc k) i)
+  where
+    go : (t : Bool) → sameName m n ≡ t → (findFrom (suc k) n names ≡ At i → i < suc k + length names) → i < k + suc (length names)
+    go true h rest = let q : k ≡ i = ap numberIn (sym (ap (λ (x : Bool). cond x (At k) (findFrom (suc k) n names)) h) ∙ e) in omega arith
+    go false h rest = let l = rest (sym (ap (λ (x : Bool). cond x (At k) (findFrom (suc k) n names)) h) ∙ e) in omega arith
+
+clamp-most : (most n : ℕ) → clamp most n ≤ most
+clamp-most most n = go (ltb n most) refl
+  where
+    go : (t : Bool) → ltb n most ≡ t → cond t n most ≤ most
+    go true e = omega (arith, ltb-true n most e)
+    go false e = omega arith
+
+-- a number that a table of names gives lies below the most names
+pub found-small : (text lengths : List ℕ) (count : ℕ) (n : List ℕ) (i : ℕ) → find (namesIn text lengths (clamp maxNames count)) n ≡ At i → i < maxNames
+found-small text lengths count n i e =
+    omega (arith, find-below (namesIn text lengths (clamp maxNames count)) n 0 i e, rows-length (nameAt text lengths) 0 (clamp maxNames count), clamp-most maxNames count)
+
+module _ (names : List (List ℕ)) (f : List ℕ) where
+  pub known-undeclared : find names (nameOf f) ≡ Nothing → knownOf names f ≡ Undeclared
+  unfolding knownOf
+  known-undeclared e = ap (λ (x : Found). knownBy x (tildes f) (minuses f)) e
+
+  pub known-entry : (i : ℕ) → find names (nameOf f) ≡ At i → knownOf names f ≡ Entry (2 * i + minuses f) (tildes f)
+  unfolding knownOf
+  known-entry i e = ap (λ (x : Found). knownBy x (tildes f) (minuses f)) e
+
+  is-known : Known → Bool
+  is-known Undeclared = false
+  is-known (Entry l t) = true
+
+  literal-known : Known → ℕ
+  literal-known Undeclared = minuses f
+  literal-known (Entry l t) = l
+
+  tildes-known : Known → ℕ
+  tildes-known Undeclared = tildes f
+  tildes-known (Entry l t) = t
+
+  declared-test : declared names (nameOf f) ≡ is-known (knownOf names f)
+  unfolding knownOf is-known
+  declared-test = go (find names (nameOf f))
+    where
+      go : (x : Found) → isFound x ≡ is-known (knownBy x (tildes f) (minuses f))
+      go Nothing = refl
+      go (At i) = refl
+
+  pub not-declared : knownOf names f ≡ Undeclared → declared names (nameOf f) ≡ false
+  unfolding is-known
+  not-declared e = declared-test ∙ ap is-known e
+
+  module _ (l t : ℕ) (e : knownOf names f ≡ Entry l t) where
+    pub is-declared : declared names (nameOf f) ≡ true
+    unfolding is-known
+    is-declared = declared-test ∙ ap is-known e
+
+    pub literal-is : literalNumber names f ≡ l
+    unfolding knownOf literal-known literalNumber
+    literal-is = go (find names (nameOf f)) ∙ ap literal-known e
+      where
+        go : (x : Found) → 2 * numberIn x + minuses f ≡ literal-known (knownBy x (tildes f) (minuses f))
+        go Nothing = omega arith
+        go (At i) = refl
+
+    pub tildes-are : tildes f ≡ t
+    unfolding knownOf tildes-known
+    tildes-are = go (find names (nameOf f)) ∙ ap tildes-known e
+      where
+        go : (x : Found) → tildes f ≡ tildes-known (knownBy x (tildes f) (minuses f))
+        go Nothing = refl
+        go (At i) = refl
+
+    -- the code that is stored for the field
+    pub code-is : codeOf (entryFrom names f) ≡ 2 * l + t
+    unfolding entryFrom
+    code-is = go (tildes f) tildes-are (lead-most 126 f)
+      where
+        go : (n : ℕ) → n ≡ t → n ≤ 1 → codeOf (cond (eqb n 1) (default (literalNumber names f)) (positive (literalNumber names f))) ≡ 2 * l + t
+        go zero q h = omega (arith, literal-is)
+        go (suc zero) q h = omega (arith, literal-is)
+        go (suc (suc n)) q h = absurd (omega arith)
+
+-- the literal and the mark of a field whose name a table of names has
+pub known-small : (text lengths : List ℕ) (count : ℕ) (f : List ℕ) (l t : ℕ) → knownOf (namesIn text lengths (clamp maxNames count)) f ≡ Entry l t → (l < 2 * maxNames) × (t ≤ 1)
+unfolding literalNumber
+known-small text lengths count f l t e =
+    let names = namesIn text lengths (clamp maxNames count) in
+    let few = go (find names (nameOf f)) refl in
+    (omega (arith, literal-is names f l t e, lead-most 45 (drop (tildes f) f)), omega (arith, tildes-are names f l t e, lead-most 126 f))
+  where
+    go : (x : Found) → find (namesIn text lengths (clamp maxNames count)) (nameOf f) ≡ x → numberIn (find (namesIn text lengths (clamp maxNames count)) (nameOf f)) < maxNames
+    go Nothing q = omega (arith, ap numberIn q)
+    go (At i) q = omega (arith, ap numberIn q, found-small text lengths count (nameOf f) i q)

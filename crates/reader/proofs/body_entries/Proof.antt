@@ -1,0 +1,164 @@
+-- `body_entries`: every name passed is declared, and the entries of what is left, stored into what there is, are those of the whole.
+use borrow.Author.Needs.{needs}
+use mathlib.Core.Path.{_≡_, refl, sym, ap, _∙_}
+use mathlib.Core.Bool.{Bool, not}
+use mathlib.Core.List.{List, map}
+use Prim.Native.Nat.{ℕ, _≤_, _+_, _-_, _*_}
+use lib.ListN.{length, length-set}
+use lib.Seq.{sets}
+use Rattle.scan.specs.Text.{rest, nameOf}
+use Rattle.book.specs.Limits.{maxNames}
+use Rattle.book.specs.Book.{clamp, namesIn, codeOf}
+use Rattle.reader.specs.File.{allFields, declared, _when_else_, entryFrom}
+use Rattle.reader.proofs.Fields.{fields-go, fields-stop, fields-end, not-declared, is-declared, code-is, known-small}
+use Rattle.reader.proofs.Stored.{store-field, store-none}
+use native.Mathlib.Omega.{arith}
+use Rattle.reader.proofs.body_entries.Statement.{statement}
+use Rattle.reader.proofs.body_entries.Tie as tie
+
+-- the names of the tables
+abbrev names-in : List ℕ → List ℕ → ℕ → List (List ℕ)
+names-in text lengths count = namesIn text lengths (clamp maxNames count)
+
+abbrev known : List (List ℕ) → List ℕ → Bool
+known names f = declared names (nameOf f)
+
+abbrev code : List (List ℕ) → List ℕ → ℕ
+code names f = codeOf (entryFrom names f)
+
+abbrev Inv-loop : tie.InvT-loop
+Inv-loop text lengths count entries₀ at line from k₀ p₀ entries k p =
+    (p ≤ length line + 1) × (k ≤ at + p) × (length entries ≡ length entries₀)
+    × (allFields (known (names-in text lengths count)) (rest 44 line p) ≡ allFields (known (names-in text lengths count)) (rest 44 line from))
+    × (sets entries k (map (code (names-in text lengths count)) (rest 44 line p)) ≡ sets entries₀ at (map (code (names-in text lengths count)) (rest 44 line from)))
+
+abbrev μ-loop : tie.MeasureT-loop
+μ-loop text lengths count entries₀ at line from k₀ p₀ entries k p = length line + 1 - p
+
+loop-holds : tie.Need-loop-holds Inv-loop μ-loop
+loop-holds c = (search needs, omega arith, refl, refl, refl)
+
+end-of-requires : tie.Need-end-of-requires Inv-loop μ-loop
+end-of-requires c κs = search needs
+
+sub-known-of : tie.Need-sub-known-of Inv-loop μ-loop
+sub-known-of c = search needs
+
+part-known-of-start : tie.Need-part-known-of-start Inv-loop μ-loop
+part-known-of-start c = search needs
+
+part-known-of-end : tie.Need-part-known-of-end Inv-loop μ-loop
+part-known-of-end c = let within = c .end-of .ensures .2 (c .before .loop-test .taken) in search needs
+
+known-of-requires : tie.Need-known-of-requires Inv-loop μ-loop
+known-of-requires c κs = search needs
+
+enum-known-literal : tie.Need-enum-known-literal Inv-loop μ-loop
+enum-known-literal c = search needs
+
+enum-told : tie.Need-enum-told Inv-loop μ-loop
+enum-told c = search needs
+
+same-length : tie.Need-same-length Inv-loop μ-loop
+same-length c = c .before .before .before .before .before .before .loop .inv .2
+
+returns : tie.Need-returns Inv-loop μ-loop
+returns c =
+    let a = c .before .before .before .before .before .before .before .before .before .before .before .args in
+    let was = c .before .before .before .before .before .before .loop in
+    let d = c .before .before .before .before in
+    let names = names-in (a .text .now) (a .lengths .now) (a .count) in
+    let unknown = not-declared names _ (sym (c .before .before .known-of .ensures) ∙ c .enum-told .given .1) in (
+      ap (λ (b : Bool). 7 when not b else 0)
+          (sym (fields-stop (known names) (a .line .now) (was .p) (d .end-of .result) (d .before .loop-test .taken) (d .end-of .ensures .0) unknown) ∙ was .inv .3),
+      λ e. absurd (omega arith),
+    )
+
+mul-put16 : tie.Need-mul-put16 Inv-loop μ-loop
+mul-put16 c =
+    let a = c .before .before .before .before .before .before .before .before .before .before .before .before .before .args in
+    let small = known-small (a .text .now) (a .lengths .now) (a .count) _ _ _ (sym (c .before .before .before .before .known-of .ensures) ∙ c .before .before .literal .given .1) in
+    search needs
+
+add-put16 : tie.Need-add-put16 Inv-loop μ-loop
+add-put16 c =
+    let a = c .before .before .before .before .before .before .before .before .before .before .before .before .before .args in
+    let small = known-small (a .text .now) (a .lengths .now) (a .count) _ _ _ (sym (c .before .before .before .before .known-of .ensures) ∙ c .before .before .literal .given .1) in
+    search needs
+
+cast-put16 : tie.Need-cast-put16 Inv-loop μ-loop
+cast-put16 c =
+    let a = c .before .before .before .before .before .before .before .before .before .before .before .before .before .args in
+    let small = known-small (a .text .now) (a .lengths .now) (a .count) _ _ _ (sym (c .before .before .before .before .known-of .ensures) ∙ c .before .before .literal .given .1) in
+    search needs
+
+put16-requires : tie.Need-put16-requires Inv-loop μ-loop
+put16-requires c κs = search needs
+
+add-k : tie.Need-add-k Inv-loop μ-loop
+add-k c = let within = c .before .before .before .before .before .before .before .before .before .end-of .ensures .2 (c .before .before .before .before .before .before .before .before .before .before .loop-test .taken) in omega arith
+
+add-p : tie.Need-add-p Inv-loop μ-loop
+add-p c = let within = c .before .before .before .before .before .before .before .before .before .end-of .ensures .2 (c .before .before .before .before .before .before .before .before .before .before .loop-test .taken) in omega arith
+
+loop-less : tie.Need-loop-less Inv-loop μ-loop
+loop-less c = search needs
+
+loop-again : tie.Need-loop-again Inv-loop μ-loop
+loop-again c =
+    let a = c .before .before .before .before .before .before .before .before .before .before .before .before .before .before .before .before .args in
+    let was = c .before .before .before .before .before .before .before .before .before .before .before .loop in
+    let d = c .before .before .before .before .before .before .before .before .before in
+    let within = d .end-of .ensures .2 (d .before .loop-test .taken) in
+    let names = names-in (a .text .now) (a .lengths .now) (a .count) in
+    let l = c .before .before .before .before .before .literal .given .0 .0 in
+    let t = c .before .before .before .before .before .literal .given .0 .1 .0 in
+    let entry = sym (c .before .before .before .before .before .before .before .known-of .ensures) ∙ c .before .before .before .before .before .literal .given .1 in
+    let stored = c .before .before .put16 .ensures in (
+      omega arith,
+      omega (arith, d .end-of .ensures .1),
+      ap length stored ∙ simp length-set (was .inv .2),
+      sym (fields-go (known names) (a .line .now) (was .p) (d .end-of .result) (d .before .loop-test .taken) (d .end-of .ensures .0) (is-declared names _ l t entry)) ∙ was .inv .3,
+      ap (λ (x : List ℕ). sets x (was .k + 1) (map (code names) (rest 44 (a .line .now) (d .end-of .result + 1)))) stored
+          ∙ sym (store-field (was .entries) (was .k) (code names) (a .line .now) (was .p) (d .end-of .result) (d .before .loop-test .taken) (d .end-of .ensures .0) (2 * l + t) (code-is names _ l t entry))
+          ∙ was .inv .4,
+    )
+
+same-length-2 : tie.Need-same-length-2 Inv-loop μ-loop
+same-length-2 c = c .before .loop .inv .2
+
+returns-2 : tie.Need-returns-2 Inv-loop μ-loop
+returns-2 c =
+    let a = c .before .before .before .before .before .before .args in
+    let was = c .before .loop in
+    let names = names-in (a .text .now) (a .lengths .now) (a .count) in (
+      ap (λ (b : Bool). 7 when not b else 0) (sym (fields-end (known names) (a .line .now) (was .p) (c .loop-test .left)) ∙ was .inv .3),
+      λ e. sym (store-none (was .entries) (was .k) (code names) (a .line .now) (was .p) (c .loop-test .left)) ∙ was .inv .4,
+    )
+
+pub body-entries-spec : {M : Type 1} → statement M
+body-entries-spec =
+    tie.close
+    (tie.spec
+    Inv-loop
+    μ-loop
+    loop-holds
+    end-of-requires
+    sub-known-of
+    part-known-of-start
+    part-known-of-end
+    known-of-requires
+    enum-known-literal
+    enum-told
+    same-length
+    returns
+    mul-put16
+    add-put16
+    cast-put16
+    put16-requires
+    add-k
+    add-p
+    loop-less
+    loop-again
+    same-length-2
+    returns-2)

@@ -1,0 +1,91 @@
+-- `form_fault`: every field passed is a literal, so what is left decides.
+use borrow.Author.Needs.{needs}
+use mathlib.Core.Path.{_≡_, refl, sym, ap, _∙_}
+use mathlib.Core.Bool.{Bool, not}
+use Prim.Native.Nat.{ℕ, _≤_, _+_, _-_}
+use lib.ListN.{length}
+use Rattle.scan.specs.Text.{rest}
+use Rattle.reader.specs.File.{allFields, isLiteral, _when_else_}
+use Rattle.reader.proofs.Fields.{fields-go, fields-stop, fields-end, malformed-form, literal-form}
+use native.Mathlib.Omega.{arith}
+use Rattle.reader.proofs.form_fault.Statement.{statement}
+use Rattle.reader.proofs.form_fault.Tie as tie
+
+abbrev Inv-loop : tie.InvT-loop
+Inv-loop line from p₀ p = (p ≤ length line + 1) × (allFields isLiteral (rest 44 line p) ≡ allFields isLiteral (rest 44 line from))
+
+abbrev μ-loop : tie.MeasureT-loop
+μ-loop line from p₀ p = length line + 1 - p
+
+loop-holds : tie.Need-loop-holds Inv-loop μ-loop
+loop-holds c = search needs
+
+end-of-requires : tie.Need-end-of-requires Inv-loop μ-loop
+end-of-requires c κs = search needs
+
+sub-form-of : tie.Need-sub-form-of Inv-loop μ-loop
+sub-form-of c = search needs
+
+part-form-of-start : tie.Need-part-form-of-start Inv-loop μ-loop
+part-form-of-start c = search needs
+
+part-form-of-end : tie.Need-part-form-of-end Inv-loop μ-loop
+part-form-of-end c = let within = c .end-of .ensures .2 (c .before .loop-test .taken) in search needs
+
+form-of-requires : tie.Need-form-of-requires Inv-loop μ-loop
+form-of-requires c κs = search needs
+
+enum-told : tie.Need-enum-told Inv-loop μ-loop
+enum-told c = search needs
+
+enum-told-2 : tie.Need-enum-told-2 Inv-loop μ-loop
+enum-told-2 c = search needs
+
+returns : tie.Need-returns Inv-loop μ-loop
+returns c =
+    let d = c .before .before .before .before in
+    let at = d .before .before in
+    let form = sym (c .before .before .form-of .ensures) ∙ c .enum-told2 .given .1 in
+    ap (λ (b : Bool). 5 when not b else 0)
+    (sym (fields-stop isLiteral (at .before .before .args .line .now) (at .loop .p) (d .end-of .result) (d .before .loop-test .taken) (d .end-of .ensures .0) (malformed-form _ form)) ∙ at .loop .inv .1)
+
+add-p : tie.Need-add-p Inv-loop μ-loop
+add-p c = let within = c .before .before .before .before .end-of .ensures .2 (c .before .before .before .before .before .loop-test .taken) in omega arith
+
+loop-less : tie.Need-loop-less Inv-loop μ-loop
+loop-less c = search needs
+
+loop-again : tie.Need-loop-again Inv-loop μ-loop
+loop-again c =
+    let d = c .before .before .before .before in
+    let at = d .before .before in
+    let within = d .end-of .ensures .2 (d .before .loop-test .taken) in
+    let form = sym (c .before .before .form-of .ensures) ∙ c .enum-told .given .1 in (
+      omega arith,
+      sym (fields-go isLiteral (at .before .before .args .line .now) (at .loop .p) (d .end-of .result) (d .before .loop-test .taken) (d .end-of .ensures .0) (literal-form _ _ _ form)) ∙ at .loop .inv .1,
+    )
+
+returns-2 : tie.Need-returns-2 Inv-loop μ-loop
+returns-2 c =
+    let at = c .before in
+    ap (λ (b : Bool). 5 when not b else 0) (sym (fields-end isLiteral (at .before .before .args .line .now) (at .loop .p) (c .loop-test .left)) ∙ at .loop .inv .1)
+
+pub form-fault-spec : {M : Type 1} → statement M
+form-fault-spec =
+    tie.close
+    (tie.spec
+    Inv-loop
+    μ-loop
+    loop-holds
+    end-of-requires
+    sub-form-of
+    part-form-of-start
+    part-form-of-end
+    form-of-requires
+    enum-told
+    enum-told-2
+    returns
+    add-p
+    loop-less
+    loop-again
+    returns-2)
