@@ -3,3 +3,4 @@ pub mod Within
 pub mod Fields
 pub mod Stored
 pub mod Held
+pub mod Judgement

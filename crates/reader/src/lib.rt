@@ -284,7 +284,7 @@ fn judge(
 }
 
 // The lines of b, which is the file without its last byte.
-fn lines(b: &[u8]) -> Loaded
+fn read_lines(b: &[u8]) -> Loaded
     ensures { λ r. ⌜ r ≡ loadedOf (readLines nothingYet 1 (split 10 (now (b .entry)))) ⌝ }
 {
     let mut text = [0u8; 2048];
@@ -354,5 +354,5 @@ pub fn read(file: &[u8]) -> Loaded
     if file[n - 1] != 10 {
         return refusal(3, 0);
     }
-    lines(&file[0..n - 1])
+    read_lines(&file[0..n - 1])
 }
