@@ -1,21 +1,19 @@
 -- The tables that hold names and rules give back those names and rules: each name stands in a block of its own, and each body begins where the
 -- bodies before it end.
 use mathlib.Core.Path.{_≡_, refl, sym, ap, ap₂, _∙_}
-use mathlib.Core.Bool.{true, false, cond}
 use mathlib.Core.List.{List, [], _∷_, _++_, map, append-assoc, List·Memᴰ·head, List·Memᴰ·tail}
 use Prim.Native.Nat.{ℕ, zero, suc, _+_, _-_, _*_, _/_, _%_, _≤_, _<_}
 use native.Mathlib.Omega.{arith}
 use native.Mathlib.Nat.{mod-eq-of-lt, zero-add, suc-add, add-suc, add-zero, sub-zero}
 use native.Mathlib.Decide.{decLt}
 use native.Mathlib.Numerals.{add-one}
-use lib.ListN.{length, getD, take, drop, replicate, length-append, length-map, List·getD-append, List·getD-map}
+use lib.ListN.{length, getD, take, drop, replicate, length-map, List·getD-append, List·getD-map}
 use lib.Seq.{take-append-seam, drop-append-add}
-use lib.Dec.{eqb, ltb}
 use borrow.Author.Tests.{lt-ltb, le-ltb, eq-eqb, ne-eqb}
 use Rattle.wfsx.specs.Sets.{_isIn_}
 use Rattle.wfsx.specs.Program.{Entry, positive, default, Rule}
 use Rattle.litset.specs.Words.{capacity}
-use Rattle.book.specs.Limits.{maxNames, maxRules, maxEntries, maxLength}
+use Rattle.book.specs.Limits.{maxNames, maxRules, maxLength}
 use Rattle.book.specs.Book.{rows, clamp, nameAt, namesIn, namesOf, literalOf, entryOf, bodyAt, ruleAt, rulesIn, rulesOf, padded, joined, codeOf, bodyCodes, startsFrom, textTable, lengthTable, headTable, startTable, entryTable, bookOf}
 use Rattle.book.proofs.Tables.{allCodes, padded-length, starts-length}
 

@@ -5,7 +5,7 @@ use mathlib.Core.List.{List, [], _∷_, _++_, map, append-assoc, append-nil, Lis
 use Prim.Native.Nat.{ℕ, zero, suc, _+_, _-_, _*_, _≤_, _<_}
 use native.Mathlib.Omega.{arith}
 use native.Mathlib.Nat.{sub-zero, zero-sub, suc-sub-suc}
-use lib.ListN.{length, drop, take, set, replicate, length-append, length-replicate, length-map, replicate-append-replicate}
+use lib.ListN.{length, drop, set, replicate, length-append, length-replicate, length-map, replicate-append-replicate}
 use lib.Seq.{sets, sets-eq, take-append-seam, drop-append-add}
 use Rattle.wfsx.specs.Sets.{_isIn_}
 use Rattle.wfsx.specs.Program.{Rule}

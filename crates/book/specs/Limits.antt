@@ -1,5 +1,5 @@
 -- What the tables of a book hold (document 01, "The marking file"). `src/lib.rt` has the same numbers.
-use Prim.Native.Nat.{ℕ, _*_}
+use Prim.Native.Nat.{ℕ}
 
 abbrev pub maxNames : ℕ
 maxNames = 128

@@ -1,26 +1,23 @@
 -- Laws over the fields of a line: for a loop that has come to the field at place p, which ends at e, and for a field's name looked up.
-use mathlib.Core.Path.{_≡_, refl, sym, ap, ap₂, _∙_}
-use mathlib.Core.Bool.{Bool, true, false, not, cond, _&&_, true≢false}
-use mathlib.Core.List.{List, [], _∷_, map}
+use mathlib.Core.Path.{_≡_, refl, sym, ap, _∙_}
+use mathlib.Core.Bool.{Bool, true, false, cond, true≢false}
+use mathlib.Core.List.{List, [], _∷_}
 use Prim.Native.Nat.{ℕ, zero, suc, _+_, _-_, _*_, _≤_, _<_}
 use native.Mathlib.Omega.{arith}
-use native.Mathlib.Nat.{suc-add, zero-add}
-use native.Mathlib.Numerals.{add-one}
-use lib.ListN.{length, take, drop, set}
-use lib.Seq.{sets}
+use lib.ListN.{length, take, drop}
 use lib.Dec.{eqb, ltb}
-use borrow.Author.Tests.{lt-ltb, le-ltb, eq-eqb, ne-eqb, ltb-true}
+use borrow.Author.Tests.{ltb-true}
 use Rattle.wfsx.specs.Program.{positive, default}
 use Rattle.scan.specs.Text.{isName, lenTo, rest, tildes, minuses, nameOf, formOf}
 use Rattle.scan.specs.declared.Form.{Form}
 use Rattle.scan.specs.declared.Form.the-variants.{Malformed, Literal}
 use Rattle.scan.proofs.Places.{rest-step, rest-none}
-use Rattle.scan.proofs.Bytes.{lead-most, name-from}
+use Rattle.scan.proofs.Bytes.{lead-most}
 use Rattle.book.specs.Limits.{maxNames}
 use Rattle.book.specs.Book.{rows, clamp, nameAt, namesIn, sameName, findFrom, find, codeOf}
 use Rattle.book.specs.declared.Found.{Found}
 use Rattle.book.specs.declared.Found.the-variants.{Nothing, At}
-use Rattle.reader.specs.File.{allFields, isLiteral, hasTilde, declared, isFound, numberIn, literalNumber, entryFrom}
+use Rattle.reader.specs.File.{allFields, isLiteral, declared, isFound, numberIn, literalNumber, entryFrom}
 use Rattle.reader.specs.Steps.{knownBy, knownOf}
 use Rattle.reader.specs.declared.Known.{Known}
 use Rattle.reader.specs.declared.Known.the-variants.{Undeclared, Entry}

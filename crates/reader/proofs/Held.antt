@@ -1,20 +1,18 @@
 -- What the tables hold, when a name or a rule is read: the fault of its line by the tests in their order, and the tables with it added.
 use mathlib.Core.Path.{_≡_, refl, sym, ap, ap₂, _∙_, subst}
 use mathlib.Core.Logic.{⊎-elim}
-use mathlib.Core.Bool.{Bool, true, false, not, cond, _&&_, _||_, or-true}
-use mathlib.Core.List.{List, [], _∷_, _++_, map, List·Memᴰ·append-cases, List·Memᴰ·eq-of-singleton}
-use Prim.Native.Nat.{ℕ, zero, suc, _+_, _-_, _*_, _≤_, _<_}
+use mathlib.Core.Bool.{Bool, true, false, not, or-true}
+use mathlib.Core.List.{List, [], _∷_, _++_, List·Memᴰ·append-cases, List·Memᴰ·eq-of-singleton}
+use Prim.Native.Nat.{ℕ, suc, _+_, _-_, _*_, _≤_, _<_}
 use native.Mathlib.Omega.{arith}
-use native.Mathlib.Numerals.{add-one}
 use lib.ListN.{length, set, length-append, length-map}
 use lib.Seq.{sets}
-use lib.Dec.{leb, ltb}
+use lib.Dec.{leb}
 use borrow.Author.Tests.{le-leb, lt-leb, lt-ltb, le-ltb}
-use Rattle.wfsx.specs.Sets.{_isIn_}
 use Rattle.wfsx.specs.Program.{Rule}
 use Rattle.scan.specs.Text.{isName, nameOf}
 use Rattle.book.specs.Limits.{maxNames, maxRules, maxEntries, maxLength}
-use Rattle.book.specs.Book.{clamp, namesIn, joined, codeOf, bodyCodes, textTable, lengthTable, headTable, startTable, entryTable}
+use Rattle.book.specs.Book.{clamp, namesIn, joined, codeOf, bodyCodes, textTable, lengthTable, startTable}
 use Rattle.book.proofs.Tables.{allCodes, text-more, length-more, head-more, start-more, entry-more}
 use Rattle.book.proofs.Back.{clamp-least, names-back}
 use Rattle.reader.specs.File.{bodyLiterals, allFields, isLiteral, hasTilde, declared, _when_else_}
@@ -107,7 +105,7 @@ unfolding bodyLiterals
 bodies-more [] r = omega arith
 bodies-more (q ∷ rules) r = omega (arith, bodies-more rules r)
 
-codes-length : (rules : List Rule) → length (allCodes rules) ≡ bodyLiterals rules
+pub codes-length : (rules : List Rule) → length (allCodes rules) ≡ bodyLiterals rules
 unfolding bodyLiterals joined
 codes-length [] = refl
 codes-length (r ∷ rules) = omega (arith, length-append (bodyCodes r) (allCodes rules), length-map (r .body) codeOf, codes-length rules)

@@ -1,20 +1,24 @@
 -- The judgement of a line by its first field, and of the lines one after the other.
-use mathlib.Core.Path.{_≡_, refl, sym, ap, ap₂, _∙_, subst}
-use mathlib.Core.Bool.{Bool, true, false, not, cond, _&&_, _||_, and-true, Bool·not-not}
-use mathlib.Core.List.{List, [], _∷_, _++_}
-use Prim.Native.Nat.{ℕ, zero, suc, _+_, _-_, _≤_, _<_, zero-le}
+use mathlib.Core.Path.{_≡_, refl, sym, ap, _∙_, subst}
+use mathlib.Core.Bool.{true, false, not, cond, and-true, Bool·not-not}
+use mathlib.Core.List.{List, [], _∷_, _++_, map}
+use Prim.Native.Nat.{ℕ, _+_, _-_, _*_, _≤_, _<_, zero-le}
 use native.Mathlib.Omega.{arith}
-use lib.ListN.{length, take, drop}
-use lib.Dec.{eqb, leb}
-use borrow.Author.Tests.{eq-eqb, ne-eqb, le-leb, lt-leb}
+use lib.ListN.{length, getD, take, drop, replicate, length-map}
+use borrow.Author.Tests.{eq-eqb, ne-eqb, le-leb, lt-leb, lt-ltb, le-ltb}
 use Rattle.wfsx.specs.Program.{Rule}
-use Rattle.scan.specs.Text.{split, lenTo, rest, fields, isName, wordOf}
+use Rattle.scan.specs.Text.{isText, allBytes, split, lenTo, rest, fields, isName, wordOf}
 use Rattle.scan.specs.declared.Word.{Word}
 use Rattle.scan.specs.declared.Word.the-variants.{Name, Rule as RuleWord, End, Unknown}
-use Rattle.scan.proofs.Places.{rest-here, rest-step, rest-none, rest-within, split-first}
-use Rattle.reader.specs.File.{Content, allFields, declared, wrongFields, malformed, declaredBefore, usesUndeclared, beyondTable, _when_else_, faultOf, lineFault, ruleFrom, extended, withLine, Outcome, accepted, refused, readLines}
+use Rattle.scan.proofs.Places.{rest-here, rest-step, rest-none, rest-within}
+use Rattle.book.specs.Book.{padded, joined, startsFrom, bookOf}
+use Rattle.book.specs.Limits.{maxNames, maxRules, maxEntries, maxLength}
+use Rattle.book.proofs.Tables.{padded-length, text-length, allCodes, starts-length}
+use Rattle.reader.specs.File.{Content, nothingYet, bodyLiterals, allFields, declared, wrongFields, malformed, declaredBefore, usesUndeclared, beyondTable, faultOf, lineFault, ruleFrom, extended, withLine, accepted, refused, readLines, maxBytes, unended, linesOf, readFile}
 use Rattle.reader.specs.Steps.{NameTable, RuleTable, Holds, nameFault, ruleFault, LineRead}
+use Rattle.reader.proofs.Held.{codes-length}
 use Rattle.reader.specs.declared.Counts.{Counts}
+use Rattle.reader.specs.declared.Judged.{Judged}
 use Rattle.reader.specs.declared.Judged.the-variants.{Fine, Fault}
 
 -- ---- the fault by the first field
@@ -116,3 +120,115 @@ module _ {d : Content} {t : Counts} {text lengths heads starts entries : List �
 pub wrong-unknown : (others : List (List ℕ)) → wrongFields Unknown others ≡ true
 unfolding wrongFields
 wrong-unknown others = refl
+
+-- ---- the lines one after the other
+
+module _ (d : Content) (number : ℕ) (b : List ℕ) (at : ℕ) where
+  module _ (e : ℕ) (h : at ≤ length b) (q : e ≡ at + lenTo 10 (drop at b)) where
+    pub lines-go : lineFault d (fields (take (e - at) (drop at b))) ≡ 0
+        → readLines d number (rest 10 b at) ≡ readLines (withLine d (fields (take (e - at) (drop at b)))) (number + 1) (rest 10 b (e + 1))
+    unfolding readLines
+    lines-go f = ap (readLines d number) (rest-step 10 b at e h q) ∙ rw f
+
+    pub lines-stop : (k : ℕ) → lineFault d (fields (take (e - at) (drop at b))) ≡ k → (k ≡ 0 → ⊥) → readLines d number (rest 10 b at) ≡ refused k number
+    unfolding readLines
+    lines-stop k f n = ap (readLines d number) (rest-step 10 b at e h q) ∙ rw (f, ne-eqb k 0 n)
+
+  pub lines-end : length b < at → readLines d number (rest 10 b at) ≡ cond (d .ended) (accepted (d .names) (d .rules)) (refused 9 number)
+  unfolding readLines
+  lines-end h = ap (readLines d number) (rest-none 10 b at h)
+
+-- what has been read up to place `at`, and that what is left decides
+pub record ReadTo (b : List ℕ) (t : Counts) (at number : ℕ) (text lengths heads starts entries : List ℕ) : Type 0 where
+  pub content : Content
+  pub held : Holds content t text lengths heads starts entries
+  pub same : readLines content number (rest 10 b at) ≡ readLines nothingYet 1 (split 10 b)
+
+pub read-none : (b : List ℕ)
+    → ReadTo b (record { names = 0; rules = 0; used = 0; ended = false }) 0 1 (replicate 2048 0) (replicate 128 0) (replicate 512 0) (replicate 513 0) (replicate 2048 0)
+unfolding joined startsFrom bodyLiterals
+read-none b =
+    record {
+      content = nothingYet;
+      held = record {
+        names-held = record { counted = refl; text-is = refl; lengths-are = refl; few = zero-le; short = λ n i. elim i [ ] };
+        rules-held = record { counted = refl; used-is = refl; heads-are = refl; starts-are = refl; entries-are = refl; few = zero-le; room = zero-le };
+        ended-is = refl;
+      };
+      same = ap (readLines nothingYet 1) (rest-here 10 b 0 zero-le);
+    }
+
+-- the tables of what has been read are a book
+pub book-held : {d : Content} {t : Counts} {text lengths heads starts entries : List ℕ} → Holds d t text lengths heads starts entries
+    → record { names = t .names; rules = t .rules; text = text; lengths = lengths; heads = heads; starts = starts; entries = entries } ≡ bookOf (d .names) (d .rules)
+unfolding bookOf
+book-held h =
+    let n = h .names-held in
+    let r = h .rules-held in
+    rw (n .counted, n .text-is, n .lengths-are, r .counted, r .heads-are, r .starts-are, r .entries-are) refl
+
+-- the tables have their sizes
+module _ {d : Content} {t : Counts} {text lengths heads starts entries : List ℕ} (h : Holds d t text lengths heads starts entries) where
+  pub text-size : length text ≡ maxLength * maxNames
+  text-size =
+      let n = h .names-held in
+      ap length (n .text-is) ∙ padded-length (maxLength * maxNames) (joined (map (padded maxLength) (d .names))) (omega (arith, text-length (d .names) (n .short), n .few))
+
+  pub lengths-size : length lengths ≡ maxNames
+  lengths-size =
+      let n = h .names-held in
+      ap length (n .lengths-are) ∙ padded-length maxNames (map length (d .names)) (omega (arith, length-map (d .names) (λ (x : List ℕ). length x), n .few))
+
+  pub heads-size : length heads ≡ maxRules
+  heads-size =
+      let r = h .rules-held in
+      ap length (r .heads-are) ∙ padded-length maxRules (map (λ (x : Rule). x .head) (d .rules)) (omega (arith, length-map (d .rules) (λ (x : Rule). x .head), r .few))
+
+  pub starts-size : length starts ≡ maxRules + 1
+  starts-size =
+      let r = h .rules-held in
+      ap length (r .starts-are) ∙ padded-length (maxRules + 1) (startsFrom 0 (d .rules)) (omega (arith, starts-length 0 (d .rules), r .few))
+
+  pub entries-size : length entries ≡ maxEntries
+  entries-size =
+      let r = h .rules-held in
+      ap length (r .entries-are) ∙ padded-length maxEntries (allCodes (d .rules)) (omega (arith, codes-length (d .rules), r .used-is, r .room))
+
+-- a line's judgement by its case
+module _ (d : Content) (fs : List (List ℕ)) (j : Judged) (text lengths heads starts entries : List ℕ) (told : LineRead d fs j text lengths heads starts entries) where
+  pub was-fine : (t : Counts) → j ≡ Fine t → (lineFault d fs ≡ 0) × Holds (withLine d fs) t text lengths heads starts entries
+  was-fine t e = subst (λ (x : Judged). LineRead d fs x text lengths heads starts entries) e told
+
+  pub was-fault : (k : ℕ) → j ≡ Fault k → (lineFault d fs ≡ k) × (k ≡ 0 → ⊥)
+  was-fault k e = subst (λ (x : Judged). LineRead d fs x text lengths heads starts entries) e told
+
+-- ---- the whole file, by the tests in their order
+
+module _ (file : List ℕ) where
+  pub file-long : maxBytes < length file → readFile file ≡ refused 1 0
+  unfolding readFile
+  file-long h = rw (lt-ltb maxBytes (length file) h)
+
+  module _ (short : length file ≤ maxBytes) where
+    pub file-bytes : allBytes isText file ≡ false → readFile file ≡ refused 2 0
+    unfolding readFile
+    file-bytes e = rw (le-ltb maxBytes (length file) short, e)
+
+    module _ (text : allBytes isText file ≡ true) where
+      pub file-unended : unended file ≡ true → readFile file ≡ refused 3 0
+      unfolding readFile
+      file-unended e = rw (le-ltb maxBytes (length file) short, text, e)
+
+      pub file-lines : unended file ≡ false → readFile file ≡ readLines nothingYet 1 (linesOf file)
+      unfolding readFile
+      file-lines e = rw (le-ltb maxBytes (length file) short, text, e)
+
+  pub no-bytes : length file ≡ 0 → unended file ≡ true
+  no-bytes e = rw (eq-eqb (length file) 0 e)
+
+  module _ (some : length file ≡ 0 → ⊥) where
+    pub last-other : (getD file (length file - 1) 0 ≡ 10 → ⊥) → unended file ≡ true
+    last-other n = rw (ne-eqb (length file) 0 some, ne-eqb (getD file (length file - 1) 0) 10 n)
+
+    pub last-ends : getD file (length file - 1) 0 ≡ 10 → unended file ≡ false
+    last-ends e = rw (ne-eqb (length file) 0 some, eq-eqb (getD file (length file - 1) 0) 10 e)

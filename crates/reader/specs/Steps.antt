@@ -1,7 +1,7 @@
 -- What the reader's own functions tell each other: the tables that hold what has been read, and the fault of a name's and of a rule's line. The
 -- contract of `read` cites none of this.
 use mathlib.Core.Path.{_≡_}
-use mathlib.Core.Bool.{Bool, not, _||_}
+use mathlib.Core.Bool.{not, _||_}
 use mathlib.Core.List.{List, [], _∷_, _++_}
 use Prim.Native.Nat.{ℕ, _+_, _-_, _*_, _≤_}
 use lib.Dec.{leb, ltb}

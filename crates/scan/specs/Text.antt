@@ -1,7 +1,7 @@
 -- The text of a marking file: lines and fields, names, the first word of a line, and the form of a literal (document 01, "The marking file").
 use mathlib.Core.Bool.{Bool, true, false, cond, _&&_, _||_}
 use mathlib.Core.List.{List, [], _∷_}
-use Prim.Native.Nat.{ℕ, suc, _-_}
+use Prim.Native.Nat.{ℕ, suc}
 use lib.Dec.{eqb, leb}
 use lib.ListN.{length, drop}
 use Rattle.scan.specs.declared.Class.{Class}

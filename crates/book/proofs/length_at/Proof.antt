@@ -1,7 +1,6 @@
 -- `length_at`: past the table the length is 0, which no bound changes.
 use borrow.Author.Needs.{needs}
 use mathlib.Core.Path.{_∙_, ap, sym}
-use Prim.Native.Nat.{ℕ}
 use lib.ListN.{List·getD-eq-default}
 use Rattle.book.specs.Book.{clamp}
 use Rattle.book.specs.Limits.{maxLength}

@@ -1,8 +1,8 @@
 -- `form_fault`: every field passed is a literal, so what is left decides.
 use borrow.Author.Needs.{needs}
-use mathlib.Core.Path.{_≡_, refl, sym, ap, _∙_}
+use mathlib.Core.Path.{_≡_, sym, ap, _∙_}
 use mathlib.Core.Bool.{Bool, not}
-use Prim.Native.Nat.{ℕ, _≤_, _+_, _-_}
+use Prim.Native.Nat.{_≤_, _+_, _-_}
 use lib.ListN.{length}
 use Rattle.scan.specs.Text.{rest}
 use Rattle.reader.specs.File.{allFields, isLiteral, _when_else_}

@@ -2,13 +2,13 @@
 -- as they were.
 use borrow.Author.Needs.{needs}
 use mathlib.Core.Path.{_≡_, refl, sym, ap, _∙_}
-use mathlib.Core.Bool.{Bool, true, false}
+use mathlib.Core.Bool.{false}
 use mathlib.Core.List.{List, [], _∷_}
 use Prim.Native.Nat.{ℕ, _+_, _-_, _≤_, zero-le}
 use lib.ListN.{length, take, drop}
 use mir.Syntax.{w64}
 use mir.Val.{Fits}
-use Rattle.scan.specs.Text.{rest, fields, wordOf, lenTo}
+use Rattle.scan.specs.Text.{rest, fields, wordOf}
 use Rattle.scan.specs.declared.Word.{Word}
 use Rattle.scan.specs.declared.Word.the-variants.{Name, Rule as RuleWord, End, Unknown}
 use Rattle.scan.proofs.Places.{rest-within, split-first}
@@ -74,7 +74,7 @@ enum-told c = search needs
 returns-2 : tie.Need-returns-2
 returns-2 c =
     λ d h. line-fault d Name (parted (c .before .before .before .before .before .before)) (word (c .before .before .before) Name (c .before .enum-told .given .1)) 4
-      (fault-fields d (going (c .before .before .before .before .before .before .before) h) Name (others (c .before .before .before .before .before .before)) (wrong-name (others (c .before .before .before .before .before .before)) (λ e. c .if2 .taken (omega (arith, behind (c .before .before .before .before .before)))))) (λ e. omega arith)
+    (fault-fields d (going (c .before .before .before .before .before .before .before) h) Name (others (c .before .before .before .before .before .before)) (wrong-name (others (c .before .before .before .before .before .before)) (λ e. c .if2 .taken (omega (arith, behind (c .before .before .before .before .before)))))) (λ e. omega arith)
 
 -- the one field of a name's line
 abbrev name-field : tie.After-end-of2 → List ℕ
@@ -127,7 +127,7 @@ returns-3 : tie.Need-returns-3
 returns-3 c =
     λ d h. let told = c .before .before .before .before .before .name-line .ensures (d .names) (h .names-held) in
     line-fault d Name (parted (c .before .before .before .before .before .before .before .before .before .before .before .before .before .before .before .before)) (word (c .before .before .before .before .before .before .before .before .before .before .before .before .before) Name (c .before .before .before .before .before .before .before .before .before .before .before .enum-told .given .1)) (c .before .before .before .before .before .name-line .result)
-      (ap (faultOf d Name) (only-name (c .before .before .before .before .before .before .before .before .before)) ∙ fault-name d (going (c .before .before .before .before .before .before .before .before .before .before .before .before .before .before .before .before .before) h) (name-field (c .before .before .before .before .before .before .before .before .before)) ∙ sym (told .fault-is)) (c .if3 .taken)
+    (ap (faultOf d Name) (only-name (c .before .before .before .before .before .before .before .before .before)) ∙ fault-name d (going (c .before .before .before .before .before .before .before .before .before .before .before .before .before .before .before .before .before) h) (name-field (c .before .before .before .before .before .before .before .before .before)) ∙ sym (told .fault-is)) (c .if3 .taken)
 
 add-t27 : tie.Need-add-t27
 add-t27 c = search needs
@@ -138,12 +138,12 @@ enum-told-2 c = search needs
 returns-4 : tie.Need-returns-4
 returns-4 c =
     λ d h. line-fault d RuleWord (parted (c .before .before .before .before .before .before)) (word (c .before .before .before) RuleWord (c .before .enum-told2 .given .1)) 4
-      (fault-fields d (going (c .before .before .before .before .before .before .before) h) RuleWord (others (c .before .before .before .before .before .before)) (wrong-few (others (c .before .before .before .before .before .before)) (omega (arith, behind (c .before .before .before .before .before), c .if4 .taken)))) (λ e. omega arith)
+    (fault-fields d (going (c .before .before .before .before .before .before .before) h) RuleWord (others (c .before .before .before .before .before .before)) (wrong-few (others (c .before .before .before .before .before .before)) (omega (arith, behind (c .before .before .before .before .before), c .if4 .taken)))) (λ e. omega arith)
 
 returns-5 : tie.Need-returns-5
 returns-5 c =
     λ d h. line-fault d RuleWord (parted (c .before .before .before .before .before .before .before)) (word (c .before .before .before .before) RuleWord (c .before .before .enum-told2 .given .1)) 4
-      (fault-fields d (going (c .before .before .before .before .before .before .before .before) h) RuleWord (others (c .before .before .before .before .before .before .before)) (wrong-many (others (c .before .before .before .before .before .before .before)) (some-more (c .before)) (omega (arith, behind (c .before .before .before .before .before .before), c .if5 .taken)))) (λ e. omega arith)
+    (fault-fields d (going (c .before .before .before .before .before .before .before .before) h) RuleWord (others (c .before .before .before .before .before .before .before)) (wrong-many (others (c .before .before .before .before .before .before .before)) (some-more (c .before)) (omega (arith, behind (c .before .before .before .before .before .before), c .if5 .taken)))) (λ e. omega arith)
 
 add-rule-line : tie.Need-add-rule-line
 add-rule-line c = omega (arith, next-fits (c .before .before .before .before .before .before .before .before .before .before .before .before) .fits)
@@ -171,7 +171,7 @@ returns-6 : tie.Need-returns-6
 returns-6 c =
     λ d h. let told = c .before .before .before .before .before .before .before .rule-line .ensures (d .names) (d .rules) (h .names-held) (h .rules-held) in
     line-fault d RuleWord (parted (c .before .before .before .before .before .before .before .before .before .before .before .before .before .before .before .before .before .before .before .before)) (word (c .before .before .before .before .before .before .before .before .before .before .before .before .before .before .before .before .before) RuleWord (c .before .before .before .before .before .before .before .before .before .before .before .before .before .before .before .enum-told2 .given .1)) (c .before .before .before .before .before .before .before .rule-line .result)
-      (fault-rule d (going (c .before .before .before .before .before .before .before .before .before .before .before .before .before .before .before .before .before .before .before .before .before) h) (others (c .before .before .before .before .before .before .before .before .before .before .before .before .before .before .before .before .before .before .before .before)) (some-more (c .before .before .before .before .before .before .before .before .before .before .before .before .before .before)) (omega (arith, behind (c .before .before .before .before .before .before .before .before .before .before .before .before .before .before .before .before .before .before .before), c .before .before .before .before .before .before .before .before .before .before .before .before .before .if5 .left)) ∙ sym (told .fault-is)) (c .if6 .taken)
+    (fault-rule d (going (c .before .before .before .before .before .before .before .before .before .before .before .before .before .before .before .before .before .before .before .before .before) h) (others (c .before .before .before .before .before .before .before .before .before .before .before .before .before .before .before .before .before .before .before .before)) (some-more (c .before .before .before .before .before .before .before .before .before .before .before .before .before .before)) (omega (arith, behind (c .before .before .before .before .before .before .before .before .before .before .before .before .before .before .before .before .before .before .before), c .before .before .before .before .before .before .before .before .before .before .before .before .before .if5 .left)) ∙ sym (told .fault-is)) (c .if6 .taken)
 
 add-t43 : tie.Need-add-t43
 add-t43 c = search needs
@@ -185,7 +185,7 @@ enum-told-3 c = search needs
 returns-7 : tie.Need-returns-7
 returns-7 c =
     λ d h. line-fault d End (parted (c .before .before .before .before .before .before)) (word (c .before .before .before) End (c .before .enum-told3 .given .1)) 4
-      (fault-fields d (going (c .before .before .before .before .before .before .before) h) End (others (c .before .before .before .before .before .before)) (wrong-end (others (c .before .before .before .before .before .before)) (λ e. c .if7 .taken (omega (arith, behind (c .before .before .before .before .before)))))) (λ e. omega arith)
+    (fault-fields d (going (c .before .before .before .before .before .before .before) h) End (others (c .before .before .before .before .before .before)) (wrong-end (others (c .before .before .before .before .before .before)) (λ e. c .if7 .taken (omega (arith, behind (c .before .before .before .before .before)))))) (λ e. omega arith)
 
 enum-told-4 : tie.Need-enum-told-4
 enum-told-4 c = search needs
@@ -200,8 +200,8 @@ returns-8 : tie.Need-returns-8
 returns-8 c =
     λ d h. let told = c .before .before .before .before .before .before .name-line .ensures (d .names) (h .names-held) in
     line-fine d Name (parted (c .before .before .before .before .before .before .before .before .before .before .before .before .before .before .before .before .before)) (word (c .before .before .before .before .before .before .before .before .before .before .before .before .before .before) Name (c .before .before .before .before .before .before .before .before .before .before .before .before .enum-told .given .1)) _ _ _ _ _ _
-      (ap (faultOf d Name) (only-name (c .before .before .before .before .before .before .before .before .before .before)) ∙ fault-name d (going (c .before .before .before .before .before .before .before .before .before .before .before .before .before .before .before .before .before .before) h) (name-field (c .before .before .before .before .before .before .before .before .before .before)) ∙ sym (told .fault-is) ∙ c .before .if3 .left)
-      (after-name h (going (c .before .before .before .before .before .before .before .before .before .before .before .before .before .before .before .before .before .before) h) (others (c .before .before .before .before .before .before .before .before .before .before .before .before .before .before .before .before .before)) (name-field (c .before .before .before .before .before .before .before .before .before .before)) _ _ (only-name (c .before .before .before .before .before .before .before .before .before .before)) (told .added (c .before .if3 .left)))
+    (ap (faultOf d Name) (only-name (c .before .before .before .before .before .before .before .before .before .before)) ∙ fault-name d (going (c .before .before .before .before .before .before .before .before .before .before .before .before .before .before .before .before .before .before) h) (name-field (c .before .before .before .before .before .before .before .before .before .before)) ∙ sym (told .fault-is) ∙ c .before .if3 .left)
+    (after-name h (going (c .before .before .before .before .before .before .before .before .before .before .before .before .before .before .before .before .before .before) h) (others (c .before .before .before .before .before .before .before .before .before .before .before .before .before .before .before .before .before)) (name-field (c .before .before .before .before .before .before .before .before .before .before)) _ _ (only-name (c .before .before .before .before .before .before .before .before .before .before)) (told .added (c .before .if3 .left)))
 
 same-length-10 : tie.Need-same-length-10
 same-length-10 c = search needs
@@ -222,19 +222,19 @@ returns-9 : tie.Need-returns-9
 returns-9 c =
     λ d h. let told = c .before .before .before .before .before .before .before .before .before .rule-line .ensures (d .names) (d .rules) (h .names-held) (h .rules-held) in
     line-fine d RuleWord (parted (c .before .before .before .before .before .before .before .before .before .before .before .before .before .before .before .before .before .before .before .before .before .before)) (word (c .before .before .before .before .before .before .before .before .before .before .before .before .before .before .before .before .before .before .before) RuleWord (c .before .before .before .before .before .before .before .before .before .before .before .before .before .before .before .before .before .enum-told2 .given .1)) _ _ _ _ _ _
-      (fault-rule d (going (c .before .before .before .before .before .before .before .before .before .before .before .before .before .before .before .before .before .before .before .before .before .before .before) h) (others (c .before .before .before .before .before .before .before .before .before .before .before .before .before .before .before .before .before .before .before .before .before .before)) (some-more (c .before .before .before .before .before .before .before .before .before .before .before .before .before .before .before .before)) (omega (arith, behind (c .before .before .before .before .before .before .before .before .before .before .before .before .before .before .before .before .before .before .before .before .before), c .before .before .before .before .before .before .before .before .before .before .before .before .before .before .before .if5 .left)) ∙ sym (told .fault-is) ∙ c .before .before .if6 .left)
-      (after-rule h (going (c .before .before .before .before .before .before .before .before .before .before .before .before .before .before .before .before .before .before .before .before .before .before .before) h) (others (c .before .before .before .before .before .before .before .before .before .before .before .before .before .before .before .before .before .before .before .before .before .before)) (c .before .before .before .before .before .before .before .before .before .before .before .before .before .before .before .before .before .before .before .before .before .pieces .result - 2) _ _ _ (told .added (c .before .before .if6 .left)))
+    (fault-rule d (going (c .before .before .before .before .before .before .before .before .before .before .before .before .before .before .before .before .before .before .before .before .before .before .before) h) (others (c .before .before .before .before .before .before .before .before .before .before .before .before .before .before .before .before .before .before .before .before .before .before)) (some-more (c .before .before .before .before .before .before .before .before .before .before .before .before .before .before .before .before)) (omega (arith, behind (c .before .before .before .before .before .before .before .before .before .before .before .before .before .before .before .before .before .before .before .before .before), c .before .before .before .before .before .before .before .before .before .before .before .before .before .before .before .if5 .left)) ∙ sym (told .fault-is) ∙ c .before .before .if6 .left)
+    (after-rule h (going (c .before .before .before .before .before .before .before .before .before .before .before .before .before .before .before .before .before .before .before .before .before .before .before) h) (others (c .before .before .before .before .before .before .before .before .before .before .before .before .before .before .before .before .before .before .before .before .before .before)) (c .before .before .before .before .before .before .before .before .before .before .before .before .before .before .before .before .before .before .before .before .before .pieces .result - 2) _ _ _ (told .added (c .before .before .if6 .left)))
 
 returns-10 : tie.Need-returns-10
 returns-10 c =
     λ d h. line-fine d End (parted (c .before .before .before .before .before .before)) (word (c .before .before .before) End (c .before .enum-told3 .given .1)) _ _ _ _ _ _
-      (ap (faultOf d End) (no-fields (others (c .before .before .before .before .before .before)) (omega (arith, behind (c .before .before .before .before .before), c .if7 .left))) ∙ fault-end d (going (c .before .before .before .before .before .before .before) h))
-      (after-end h (going (c .before .before .before .before .before .before .before) h) (others (c .before .before .before .before .before .before)))
+    (ap (faultOf d End) (no-fields (others (c .before .before .before .before .before .before)) (omega (arith, behind (c .before .before .before .before .before), c .if7 .left))) ∙ fault-end d (going (c .before .before .before .before .before .before .before) h))
+    (after-end h (going (c .before .before .before .before .before .before .before) h) (others (c .before .before .before .before .before .before)))
 
 returns-11 : tie.Need-returns-11
 returns-11 c =
     λ d h. line-fault d Unknown (parted (c .before .before .before .before .before)) (word (c .before .before) Unknown (c .enum-told4 .given .1)) 4
-      (fault-fields d (going (c .before .before .before .before .before .before) h) Unknown (others (c .before .before .before .before .before)) (wrong-unknown (others (c .before .before .before .before .before)))) (λ e. omega arith)
+    (fault-fields d (going (c .before .before .before .before .before .before) h) Unknown (others (c .before .before .before .before .before)) (wrong-unknown (others (c .before .before .before .before .before)))) (λ e. omega arith)
 
 pub judge-spec : {M : Type 1} → statement M
 judge-spec =

@@ -1,8 +1,8 @@
 -- `known_of`: the name is what is left behind the marks, and the look-up settles the rest.
 use borrow.Author.Needs.{needs}
-use mathlib.Core.Path.{_≡_, sym, ap, ap₂, _∙_}
+use mathlib.Core.Path.{sym, ap, ap₂, _∙_}
 use Prim.Native.Nat.{ℕ, _+_, _*_}
-use Rattle.scan.proofs.Bytes.{name-from, lead-most}
+use Rattle.scan.proofs.Bytes.{name-from}
 use Rattle.book.specs.Limits.{maxNames}
 use Rattle.book.specs.Book.{clamp, namesIn, find}
 use Rattle.reader.specs.declared.Known.the-variants.{Entry}

@@ -1,16 +1,11 @@
 -- `name_line`: each test that fails settles the fault, in the definition's order; a name that passes them is stored behind the others.
 use borrow.Author.Needs.{needs}
-use mathlib.Core.Path.{_≡_, refl, sym, ap, _∙_}
-use mathlib.Core.Bool.{true, false}
+use mathlib.Core.Path.{_≡_, sym, ap, _∙_}
 use mathlib.Core.List.{List}
-use Prim.Native.Nat.{ℕ, _≤_, _*_}
-use lib.ListN.{length, length-set}
-use lib.Seq.{sets, length-sets}
+use Prim.Native.Nat.{ℕ}
 use borrow.Author.Tests.{not-true, not-false}
-use Rattle.scan.specs.Text.{isName}
 use Rattle.scan.proofs.Bytes.{name-fits}
-use Rattle.book.specs.Limits.{maxNames, maxLength}
-use Rattle.book.specs.Book.{clamp, namesIn, find}
+use Rattle.book.specs.Book.{find}
 use Rattle.book.specs.declared.Found.{Found}
 use Rattle.reader.specs.File.{isFound, declared}
 use Rattle.reader.proofs.Held.{name-malformed, name-declared, name-beyond, name-fine, held-names, name-added}

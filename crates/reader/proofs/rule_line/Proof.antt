@@ -1,24 +1,23 @@
 -- `rule_line`: each test that fails settles the fault, in the definition's order; a rule that passes them is stored behind the others.
 use borrow.Author.Needs.{needs}
-use mathlib.Core.Path.{_≡_, refl, sym, ap, ap₂, _∙_, subst}
-use mathlib.Core.Bool.{Bool, true, false}
-use mathlib.Core.List.{List, [], _∷_, _++_, map, map-map}
-use Prim.Native.Nat.{ℕ, _+_, _-_, _≤_, zero-le}
+use mathlib.Core.Path.{_≡_, sym, ap, _∙_}
+use mathlib.Core.Bool.{true, false}
+use mathlib.Core.List.{List, _∷_, map, map-map}
+use Prim.Native.Nat.{ℕ, _+_, _-_, _≤_}
 use lib.ListN.{length, take, drop, set, length-map}
 use lib.Seq.{sets}
 use lib.Dec.{eqb}
 use mir.Syntax.{w64}
 use mir.Val.{Fits}
 use borrow.Author.Tests.{eq-eqb}
-use Rattle.wfsx.specs.Program.{Rule}
 use Rattle.scan.specs.Text.{rest, nameOf, tildes, formOf}
 use Rattle.scan.specs.declared.Form.the-variants.{Literal}
 use Rattle.scan.proofs.Places.{rest-step}
 use Rattle.scan.proofs.Bytes.{lead-most}
 use Rattle.book.specs.Limits.{maxNames}
 use Rattle.book.specs.Book.{clamp, namesIn, codeOf}
-use Rattle.reader.specs.File.{allFields, isLiteral, hasTilde, declared, literalNumber, entryFrom, ruleFrom}
-use Rattle.reader.specs.Steps.{NameTable, RuleTable, ruleFault}
+use Rattle.reader.specs.File.{allFields, isLiteral, hasTilde, declared, literalNumber, entryFrom}
+use Rattle.reader.specs.Steps.{ruleFault}
 use Rattle.reader.proofs.Fields.{malformed-form, literal-form, form-tildes, not-declared, is-declared, literal-is, known-small}
 use Rattle.reader.proofs.Held.{when-none, when-some, held-names, rule-head-malformed, rule-head-tilde, rule-body-malformed, rule-head-undeclared, rule-body-undeclared, rule-too-many, rule-too-long, rule-fine, rule-added}
 use native.Mathlib.Omega.{arith}

@@ -1,6 +1,6 @@
 -- `marks_of`: `~` and `-` are passed over, each at most once.
 use borrow.Author.Needs.{needs}
-use mathlib.Core.Path.{_≡_, sym, ap, _∙_}
+use mathlib.Core.Path.{_≡_, ap, _∙_}
 use Prim.Native.Nat.{ℕ, _-_, zero-le}
 use native.Mathlib.Nat.{zero-add}
 use lib.ListN.{drop}
