@@ -1,2 +1,4 @@
 -- Laws of the reader's definitions.
+pub mod Faults
+pub mod Lines
 pub mod Within
