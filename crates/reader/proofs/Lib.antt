@@ -1,4 +1,6 @@
 -- Laws of the reader's definitions.
 pub mod Faults
 pub mod Lines
+pub mod Words
 pub mod Within
+pub mod Short

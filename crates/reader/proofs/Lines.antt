@@ -1,5 +1,5 @@
--- A file is accepted exactly where it meets none of numbers 1 to 3, none of its lines is faulty, and one of them is `end`; its names and rules are
--- then what the lines say. It is the definition's recursion over the lines, read as one statement.
+-- An accepted file meets none of numbers 1 to 3, none of its lines is faulty, and one of them is `end`; its names and rules are what the lines say.
+-- It is the recursion of the definition over the lines, read as one statement.
 use mathlib.Core.Path.{_≡_, refl}
 use mathlib.Core.Bool.{Bool, true, false, not, cond}
 use mathlib.Core.List.{List, [], _∷_}

@@ -99,7 +99,7 @@ within-nothing =
 one-more : {X : Type 0} (P : X → Type 0) {l : List X} {x : X} → ((y : X) → y isIn l → P y) → P x → (y : X) → y isIn l ++ (x ∷ []) → P y
 one-more P {l} {x} f p y m = ⊎-elim (f y) (λ i. subst P (sym (List·Memᴰ·eq-of-singleton i)) p) (List·Memᴰ·append-cases l m)
 
-neither : (a b : Bool) → a || b ≡ false → (a ≡ false) × (b ≡ false)
+pub neither : (a b : Bool) → a || b ≡ false → (a ≡ false) × (b ≡ false)
 neither true b e = absurd (true≢false e)
 neither false b e = (refl, e)
 
