@@ -4,3 +4,6 @@ pub mod Lines
 pub mod Words
 pub mod Within
 pub mod Short
+pub mod Order
+pub mod Tests
+pub mod Conditions

@@ -11,11 +11,7 @@ use borrow.Author.Tests.{eqb-true}
 use Rattle.wfsx.specs.Program.{Rule}
 use Rattle.scan.specs.Text.{isText, allBytes, fields}
 use Rattle.reader.specs.File.{Content, nothingYet, lineFault, withLine, Outcome, accepted, refused, readLines, maxBytes, unended, linesOf, readFile}
-
--- what the lines say after d
-abbrev pub saidBy : Content → List (List ℕ) → Content
-saidBy d [] = d
-saidBy d (line ∷ lines) = saidBy (withLine d (fields line)) lines
+use Rattle.reader.specs.Conditions.{saidBy}
 
 -- none of the lines is faulty after d and the lines before it
 abbrev pub Faultless : Content → List (List ℕ) → Type 0

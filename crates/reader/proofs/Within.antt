@@ -19,8 +19,9 @@ use Rattle.book.specs.Limits.{maxNames, maxRules, maxEntries}
 use Rattle.book.specs.Book.{sameName, findFrom}
 use Rattle.book.specs.declared.Found.the-variants.{At}
 use Rattle.reader.specs.File.{Content, nothingYet, bodyLiterals, allFields, isFound, declared, wrongFields, malformed, usesUndeclared, beyondTable, lineFault, numberIn, literalNumber, entryFrom, hasTilde, ruleFrom, extended, withLine, accepted, linesOf, readFile}
+use Rattle.reader.specs.Conditions.{saidBy}
 use Rattle.reader.proofs.Faults.{Clear, clear, each-field}
-use Rattle.reader.proofs.Lines.{Faultless, saidBy, file-read}
+use Rattle.reader.proofs.Lines.{Faultless, file-read}
 
 -- the literal of an entry
 abbrev pub literalIn : Entry → ℕ

@@ -1,3 +1,4 @@
 -- What a marking file says.
 pub mod File
+pub mod Conditions
 pub mod Loading
