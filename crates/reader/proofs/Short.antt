@@ -18,10 +18,10 @@ use Rattle.scan.specs.declared.Word.the-variants.{Name, Rule as RuleWord, End, 
 use Rattle.scan.proofs.Places.{split-some}
 use Rattle.reader.specs.File.{Content, nothingYet, bodyLiterals, allFields, isLiteral, hasTilde, wrongFields, malformed, lineFault, entryFrom, ruleFrom, extended, withLine, accepted, maxBytes, linesOf, readFile}
 use Rattle.reader.specs.Conditions.{saidBy}
-use Rattle.reader.proofs.Faults.{Clear, clear}
+use Rattle.reader.proofs.Faults.{Clear, clear, neither}
 use Rattle.reader.proofs.Lines.{Faultless, file-read}
 use Rattle.reader.proofs.Words.{IsWord, first-is}
-use Rattle.reader.proofs.Within.{Within, within-nothing, within-lines, name-length, lead-small, literals-append, neither}
+use Rattle.reader.proofs.Within.{Within, within-nothing, within-lines, name-length, lead-small, literals-append}
 
 -- ---- pieces, each with the stop behind it
 

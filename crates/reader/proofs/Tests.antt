@@ -1,6 +1,6 @@
 -- Each test of the definition of a marking file is true exactly where its condition is met. Number 7 speaks of the name of a literal, so its test and
 -- its condition agree on a line that isn't faulty by 5.
-use mathlib.Core.Path.{_≡_, refl, sym, ap, _∙_, subst}
+use mathlib.Core.Path.{_≡_, refl, sym, ap, subst}
 use mathlib.Core.Logic.{_⊎_, inl, inr, ⊎-elim, _↔_}
 use mathlib.Core.Bool.{Bool, true, false, not, cond, _&&_, _||_, true≢false}
 use mathlib.Core.List.{List, [], _∷_, List·Memᴰ·head, List·Memᴰ·tail, List·Memᴰ·not-nil, List·Memᴰ·cases-cons}
@@ -22,34 +22,7 @@ use Rattle.book.specs.declared.Found.the-variants.{At}
 use Rattle.reader.specs.File.{Content, bodyLiterals, allFields, isLiteral, hasTilde, isFound, declared, wrongFields, headTilde, malformed, declaredBefore, usesUndeclared, beyondTable, maxBytes, unended}
 use Rattle.reader.specs.Conditions.{LetterByte, NameByte, NameText, Optional, LiteralText, TooLong, StrangeByte, LastLineOpen, SomeField, FieldsWrong, FormWrong, NameTaken, NameMissing, TableFull}
 use Rattle.reader.proofs.Words.{IsWord, first-is, word-is}
-use Rattle.reader.proofs.Faults.{each-field}
-use Rattle.reader.proofs.Within.{neither}
-
--- ---- a test of all entries of a list
-
-module _ {X : Type 0} (f : X → Bool) (all : List X → Bool) (nil : all [] ≡ true) (cons : (x : X) (xs : List X) → all (x ∷ xs) ≡ (f x && all xs)) where
-  pub each-passes : {x : X} {xs : List X} → x isIn xs → all xs ≡ true → f x ≡ true
-  each-passes (List·Memᴰ·head {x = y} {xs = ys} e) h = rw e (and-l (f y) (all ys) (sym (cons y ys) ∙ h))
-  each-passes (List·Memᴰ·tail {x = y} {xs = ys} m) h = each-passes m (and-r (f y) (all ys) (sym (cons y ys) ∙ h))
-
-  pub all-pass : (xs : List X) → ((x : X) → x isIn xs → f x ≡ true) → all xs ≡ true
-  all-pass [] h = nil
-  all-pass (x ∷ xs) h = cons x xs ∙ and-intro (f x) (all xs) (h x (List·Memᴰ·head refl)) (all-pass xs (λ y m. h y (List·Memᴰ·tail m)))
-
-  some-fails : (xs : List X) → all xs ≡ false → (x : X) × (x isIn xs) × (f x ≡ false)
-  some-fails [] e = absurd (clash nil e)
-  some-fails (x ∷ xs) e = go (some-fails xs) (f x) refl
-    where
-      go : (all xs ≡ false → (y : X) × (y isIn xs) × (f y ≡ false)) → (t : Bool) → f x ≡ t → (y : X) × (y isIn x ∷ xs) × (f y ≡ false)
-      go rest true p = let r = rest (sym (ap (λ (t : Bool). t && all xs) p) ∙ sym (cons x xs) ∙ e) in (r .0, List·Memᴰ·tail (r .1), r .2)
-      go rest false p = (x, List·Memᴰ·head refl, p)
-
-  -- it fails where an entry does
-  pub fails-where : (xs : List X) (P : X → Type 0) → ((x : X) → x isIn xs → (f x ≡ false) ↔ P x) → (not (all xs) ≡ true) ↔ ((x : X) × (x isIn xs) × P x)
-  fails-where xs P d = (
-    λ e. let r = some-fails xs (not-true (all xs) e) in (r .0, r .1, d (r .0) (r .1) .0 (r .2)),
-    λ r. not-intro (refuted (λ e. clash (each-passes (r .1) e) (d (r .0) (r .1) .1 (r .2)))),
-  )
+use Rattle.reader.proofs.Faults.{neither, each-field, each-passes, all-pass, fails-where}
 
 -- ---- decided statements
 

@@ -2,7 +2,7 @@
 -- adds. So an accepted file is within them too.
 use mathlib.Core.Path.{_≡_, refl, sym, ap, _∙_, subst}
 use mathlib.Core.Logic.{⊎-elim}
-use mathlib.Core.Bool.{Bool, true, false, cond, _&&_, _||_, true≢false}
+use mathlib.Core.Bool.{Bool, true, false, cond, _&&_, true≢false}
 use mathlib.Core.List.{List, [], _∷_, _++_, map, List·Memᴰ·head, List·Memᴰ·tail, List·Memᴰ·not-nil, List·Memᴰ·append-cases, List·Memᴰ·eq-of-singleton, Memᴰ·of-map}
 use Prim.Native.Nat.{ℕ, suc, _+_, _-_, _*_, _≤_, _<_}
 use native.Mathlib.Omega.{arith}
@@ -20,7 +20,7 @@ use Rattle.book.specs.Book.{sameName, findFrom}
 use Rattle.book.specs.declared.Found.the-variants.{At}
 use Rattle.reader.specs.File.{Content, nothingYet, bodyLiterals, allFields, isFound, declared, wrongFields, malformed, usesUndeclared, beyondTable, lineFault, numberIn, literalNumber, entryFrom, hasTilde, ruleFrom, extended, withLine, accepted, linesOf, readFile}
 use Rattle.reader.specs.Conditions.{saidBy}
-use Rattle.reader.proofs.Faults.{Clear, clear, each-field}
+use Rattle.reader.proofs.Faults.{Clear, clear, neither, each-field}
 use Rattle.reader.proofs.Lines.{Faultless, file-read}
 
 -- the literal of an entry
@@ -99,10 +99,6 @@ within-nothing =
 
 one-more : {X : Type 0} (P : X → Type 0) {l : List X} {x : X} → ((y : X) → y isIn l → P y) → P x → (y : X) → y isIn l ++ (x ∷ []) → P y
 one-more P {l} {x} f p y m = ⊎-elim (f y) (λ i. subst P (sym (List·Memᴰ·eq-of-singleton i)) p) (List·Memᴰ·append-cases l m)
-
-pub neither : (a b : Bool) → a || b ≡ false → (a ≡ false) × (b ≡ false)
-neither true b e = absurd (true≢false e)
-neither false b e = (refl, e)
 
 module _ (d : Content) (w : Within d) where
   within-name : (others : List (List ℕ)) → Clear d Name others → Within (extended d Name others)
