@@ -7,3 +7,4 @@ pub mod Short
 pub mod Order
 pub mod Tests
 pub mod Conditions
+pub mod Pieces

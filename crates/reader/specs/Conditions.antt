@@ -122,6 +122,15 @@ P unless Q = (Q → ⊥) × P
 
 -- ---- the lines of a file
 
+-- pieces, each with the byte `stop` behind it: a file is its lines with byte 10 behind each
+unfoldable pub closed : ℕ → List (List ℕ) → List ℕ
+closed stop [] = []
+closed stop (p ∷ ps) = p ++ stop ∷ closed stop ps
+
+-- no piece has the byte
+abbrev pub FreeOf : ℕ → List (List ℕ) → Type 0
+FreeOf stop ps = (p : List ℕ) → p isIn ps → stop isIn p → ⊥
+
 -- what the lines say after d
 abbrev pub saidBy : Content → List (List ℕ) → Content
 saidBy d [] = d
