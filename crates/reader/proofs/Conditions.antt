@@ -14,9 +14,9 @@ use Rattle.wfsx.specs.Program.{Rule}
 use Rattle.scan.specs.Text.{isText, allBytes, fields, wordOf}
 use Rattle.scan.proofs.Places.{split-some}
 use Rattle.reader.specs.File.{Content, nothingYet, wrongFields, malformed, declaredBefore, usesUndeclared, beyondTable, _when_else_, faultOf, lineFault, withLine, Outcome, accepted, refused, readLines, maxBytes, unended, linesOf, readFile}
-use Rattle.reader.specs.Conditions.{TooLong, StrangeByte, LastLineOpen, AfterEnd, FieldsWrong, FormWrong, NameTaken, NameMissing, TableFull, fileRows, fieldRows, None, First, _unless_, saidBy, Sound, Judged, OnLine, Through, NoEnd, IsRefused, IsAccepted}
+use Rattle.reader.specs.Conditions.{TooLong, StrangeByte, LastLineOpen, AfterEnd, FieldsWrong, FormWrong, NameTaken, NameMissing, TableFull, fileRows, fieldRows, None, First, _unless_, saidBy, NoFaults, Judged, OnLine, Through, NoEnd, IsRefused, IsAccepted}
 use Rattle.reader.proofs.Lines.{Faultless, lines-read}
-use Rattle.reader.proofs.Order.{Gives, none, some, gives-row, gives-none, gives-first, gives-some, first-between, absent, first-absent, first-row}
+use Rattle.reader.proofs.Order.{Gives, no-row, some-row, gives-row, gives-none, gives-first, gives-some, first-between, absent, first-absent, first-row}
 use Rattle.reader.proofs.Tests.{too-long, strange-byte, last-open, fields-wrong, form-wrong, name-taken, name-missing, table-full}
 
 -- ---- the number of a line
@@ -31,7 +31,7 @@ fields-give d (first ∷ others) h =
     gives-row 5 _ (malformed w others) (form-wrong first others) (λ formed.
     gives-row 6 _ (declaredBefore d w others) (name-taken first others d) (λ _.
     gives-row 7 _ (usesUndeclared d w others) (name-missing first others d formed) (λ _.
-    gives-row 8 _ (beyondTable d w others) (table-full first others d) (λ _. none refl tt))))))
+    gives-row 8 _ (beyondTable d w others) (table-full first others d) (λ _. no-row refl tt))))))
 
 line-gives : (d : Content) (line : List ℕ) → Gives (lineFault d (fields line)) (fieldRows d (fields line))
 line-gives d line = fields-give d (fields line) (split-some 44 line)
@@ -39,7 +39,7 @@ line-gives d line = fields-give d (fields line) (split-some 44 line)
 line-none : (d : Content) (line : List ℕ) → (lineFault d (fields line) ≡ 0) ↔ None (fieldRows d (fields line))
 line-none d line = gives-none (lineFault d (fields line)) (fieldRows d (fields line)) refl (line-gives d line)
 
-faultless-is : (d : Content) (lines : List (List ℕ)) → Faultless d lines ↔ Sound d lines
+faultless-is : (d : Content) (lines : List (List ℕ)) → Faultless d lines ↔ NoFaults d lines
 faultless-is d [] = (λ f. f, λ s. s)
 faultless-is d (line ∷ lines) =
     let rest = faultless-is (withLine d (fields line)) lines in
@@ -114,7 +114,7 @@ module _ (file : List ℕ) where
   unfolding fileFault
   file-gives =
       gives-row 1 _ (ltb maxBytes (length file)) (too-long file) (λ _.
-      gives-row 2 _ (not (allBytes isText file)) (strange-byte file) (λ _. gives-row 3 _ (unended file) (last-open file) (λ _. none refl tt)))
+      gives-row 2 _ (not (allBytes isText file)) (strange-byte file) (λ _. gives-row 3 _ (unended file) (last-open file) (λ _. no-row refl tt)))
 
   readFile-is : readFile file ≡ cond (eqb (fileFault file) 0) (readLines nothingYet 1 (linesOf file)) (refused (fileFault file) 0)
   unfolding readFile fileFault
@@ -136,15 +136,15 @@ module _ (file : List ℕ) where
       let some-number = first-between 1 9 k (fileRows file) refl f .0 in
       readFile-is ∙ rw (gives-first (fileFault file) (fileRows file) refl file-gives k f, ne-eqb k 0 (λ z. omega arith))
 
-  -- a whole file is judged by 1 to 3, or else by its lines
+  -- a file is judged by 1 to 3, or else by its lines
   file-judged : ((k : ℕ) × First k (fileRows file) × (readFile file ≡ refused k 0))
       ⊎ (None (fileRows file) × (readFile file ≡ readLines nothingYet 1 (linesOf file)))
   file-judged = go file-gives
     where
       go : Gives (fileFault file) (fileRows file)
           → ((k : ℕ) × First k (fileRows file) × (readFile file ≡ refused k 0)) ⊎ (None (fileRows file) × (readFile file ≡ readLines nothingYet 1 (linesOf file)))
-      go (none z n) = inr (n, file-passes n)
-      go (some f) = inl (fileFault file, f, file-stops (fileFault file) f)
+      go (no-row z n) = inr (n, file-passes n)
+      go (some-row f) = inl (fileFault file, f, file-stops (fileFault file) f)
 
   -- ---- refusal and acceptance
 
@@ -166,7 +166,7 @@ module _ (file : List ℕ) where
               let place = r .4 in
               let judged : Judged file at (saidBy nothingYet (r .0)) (fields (r .1)) =
               record {
-                whole = s .0;
+                file-passed = s .0;
                 before = r .0;
                 line = r .1;
                 after = r .2;
@@ -179,7 +179,7 @@ module _ (file : List ℕ) where
               inr (inl (saidBy nothingYet (r .0), fields (r .1), judged, r .6))
           go (inr r) =
               let place = r .1 in
-              let through : Through file at (saidBy nothingYet (linesOf file)) = record { whole = s .0; place = omega arith; sound = faultless-is nothingYet (linesOf file) .0 (r .2); said = refl } in
+              let through : Through file at (saidBy nothingYet (linesOf file)) = record { file-passed = s .0; place = omega arith; sound = faultless-is nothingYet (linesOf file) .0 (r .2); said = refl } in
               inr (inr (r .0, (saidBy nothingYet (linesOf file), through, r .3)))
 
   is-refused : (k at : ℕ) → IsRefused file k at → readFile file ≡ refused k at
@@ -191,14 +191,14 @@ module _ (file : List ℕ) where
       let now = saidBy nothingYet (j .before) in
       let found : First k (fieldRows now (fields (j .line))) = rw (j .said, j .its-fields) (s .3) in
       let place : 1 + length (j .before) ≡ at = omega arith in
-      file-passes (j .whole) ∙ ap (readLines nothingYet 1) (j .parts) ∙ lines-skip nothingYet 1 (j .before) (j .line ∷ j .after) start
+      file-passes (j .file-passed) ∙ ap (readLines nothingYet 1) (j .parts) ∙ lines-skip nothingYet 1 (j .before) (j .line ∷ j .after) start
       ∙ lines-stop now (1 + length (j .before)) k (j .line) (j .after) found ∙ ap (refused k) place
   is-refused k at (inr (inr s)) =
       let t = s .1 .1 in
       let start = faultless-is nothingYet (linesOf file) .1 (t .sound) in
       let place : 1 + length (linesOf file) ≡ at = omega arith in
       let last : saidBy nothingYet (linesOf file) .ended ≡ false = rw (t .said) (s .1 .2) in
-      file-passes (t .whole) ∙ lines-through nothingYet 1 (linesOf file) start ∙ rw (last, place, s .0)
+      file-passes (t .file-passed) ∙ lines-through nothingYet 1 (linesOf file) start ∙ rw (last, place, s .0)
 
   pub refused-exactly : (k at : ℕ) → (readFile file ≡ refused k at) ↔ IsRefused file k at
   refused-exactly k at = (refused-is k at, is-refused k at)
@@ -215,14 +215,14 @@ module _ (file : List ℕ) where
           let r = lines-read nothingYet 1 (linesOf file) names rules (sym (s .1) ∙ e) in
           let at = length (linesOf file) + 1 in
           let now = saidBy nothingYet (linesOf file) in
-          let through : Through file at now = record { whole = s .0; place = refl; sound = faultless-is nothingYet (linesOf file) .0 (r .faultless); said = refl } in
+          let through : Through file at now = record { file-passed = s .0; place = refl; sound = faultless-is nothingYet (linesOf file) .0 (r .lines-pass); said = refl } in
           (at, now, through, r .ends, r .its-names, r .its-rules)
 
       back : IsAccepted file names rules → readFile file ≡ accepted names rules
       back s =
           let t = s .2 in
           let start = faultless-is nothingYet (linesOf file) .1 (t .sound) in
-          file-passes (t .whole) ∙ lines-through nothingYet 1 (linesOf file) start ∙ rw (t .said, s .3, s .4, s .5)
+          file-passes (t .file-passed) ∙ lines-through nothingYet 1 (linesOf file) start ∙ rw (t .said, s .3, s .4, s .5)
 
 -- no other numbers are given
 pub refused-numbers : (file : List ℕ) (k at : ℕ) → readFile file ≡ refused k at → (1 ≤ k) × (k ≤ 9)

@@ -12,7 +12,7 @@ use borrow.Author.Tests.{not-true}
 use Rattle.scan.specs.declared.Word.{Word}
 use Rattle.reader.specs.File.{Content, allFields, wrongFields, malformed, declaredBefore, usesUndeclared, beyondTable, _when_else_, faultOf}
 
-pub record Clear (d : Content) (w : Word) (others : List (List ℕ)) : Type 0 where
+pub record Passes (d : Content) (w : Word) (others : List (List ℕ)) : Type 0 where
   pub not-ended : d .ended ≡ false
   pub right-fields : wrongFields w others ≡ false
   pub well-formed : malformed w others ≡ false
@@ -24,9 +24,9 @@ passed : (n : ℕ) (b : Bool) (m : ℕ) → (suc n when b else m) ≡ 0 → (b �
 passed n true m e = absurd (omega arith)
 passed n false m e = (refl, e)
 
-pub clear : (d : Content) (w : Word) (others : List (List ℕ)) → faultOf d w others ≡ 0 → Clear d w others
+pub line-passes : (d : Content) (w : Word) (others : List (List ℕ)) → faultOf d w others ≡ 0 → Passes d w others
 unfolding faultOf
-clear d w others e =
+line-passes d w others e =
     let a = passed 8 (d .ended) _ e in
     let b = passed 3 (wrongFields w others) _ (a .1) in
     let c = passed 4 (malformed w others) _ (b .1) in

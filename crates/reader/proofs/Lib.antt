@@ -8,3 +8,4 @@ pub mod Order
 pub mod Tests
 pub mod Conditions
 pub mod Pieces
+pub mod Said

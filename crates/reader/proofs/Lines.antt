@@ -1,5 +1,5 @@
--- An accepted file meets none of numbers 1 to 3, none of its lines is faulty, and one of them is `end`; its names and rules are what the lines say.
--- It is the recursion of the definition over the lines, read as one statement.
+-- None of the lines of an accepted file is faulty, and one of them is `end`; its names and rules are what the lines say. It is the recursion of the
+-- definition over the lines, read as one statement.
 use mathlib.Core.Path.{_≡_, refl}
 use mathlib.Core.Bool.{Bool, true, false, not, cond}
 use mathlib.Core.List.{List, [], _∷_}
@@ -19,7 +19,7 @@ Faultless d [] = Unit
 Faultless d (line ∷ lines) = (lineFault d (fields line) ≡ 0) × Faultless (withLine d (fields line)) lines
 
 pub record Read (d : Content) (lines : List (List ℕ)) (names : List (List ℕ)) (rules : List Rule) : Type 0 where
-  pub faultless : Faultless d lines
+  pub lines-pass : Faultless d lines
   pub ends : saidBy d lines .ended ≡ true
   pub its-names : saidBy d lines .names ≡ names
   pub its-rules : saidBy d lines .rules ≡ rules
@@ -29,7 +29,7 @@ unfolding readLines
 lines-read d at [] names rules e = go (d .ended) refl e
   where
     go : (t : Bool) → d .ended ≡ t → cond t (accepted (d .names) (d .rules)) (refused 9 at) ≡ accepted names rules → Read d [] names rules
-    go true p q = record { faultless = tt; ends = p; its-names = cc; its-rules = cc }
+    go true p q = record { lines-pass = tt; ends = p; its-names = cc; its-rules = cc }
     go false p q = let z : _≡_ {A = ℕ} 0 1 = cc in absurd (omega arith)
 lines-read d at (line ∷ lines) names rules e = go (lines-read (withLine d (fields line)) (at + 1) lines names rules) (eqb (lineFault d (fields line)) 0) refl e
   where
@@ -40,20 +40,20 @@ lines-read d at (line ∷ lines) names rules e = go (lines-read (withLine d (fie
         → cond t next (refused (lineFault d (fields line)) at) ≡ accepted names rules → Read d (line ∷ lines) names rules
     go rest true p q =
         let r = rest q in
-        record { faultless = (eqb-true (lineFault d (fields line)) 0 p, r .faultless); ends = r .ends; its-names = r .its-names; its-rules = r .its-rules }
+        record { lines-pass = (eqb-true (lineFault d (fields line)) 0 p, r .lines-pass); ends = r .ends; its-names = r .its-names; its-rules = r .its-rules }
     go rest false p q = let z : _≡_ {A = ℕ} 0 1 = cc in absurd (omega arith)
 
--- a test that refuses was passed by what is accepted
+-- what is accepted has passed a test that refuses
 unrefused : (t : Bool) (k at : ℕ) (next : Outcome) (names : List (List ℕ)) (rules : List Rule) → cond t (refused k at) next ≡ accepted names rules
-    → (t ≡ false) × (next ≡ accepted names rules)
+    → next ≡ accepted names rules
 unrefused true k at next names rules e = let z : _≡_ {A = ℕ} 0 1 = cc in absurd (omega arith)
-unrefused false k at next names rules e = (refl, e)
+unrefused false k at next names rules e = e
 
 pub file-read : (file : List ℕ) (names : List (List ℕ)) (rules : List Rule) → readFile file ≡ accepted names rules
-    → (unended file ≡ false) × Read nothingYet (linesOf file) names rules
+    → Read nothingYet (linesOf file) names rules
 unfolding readFile
 file-read file names rules e =
     let a = unrefused (ltb maxBytes (length file)) 1 0 _ names rules e in
-    let b = unrefused (not (allBytes isText file)) 2 0 _ names rules (a .1) in
-    let c = unrefused (unended file) 3 0 _ names rules (b .1) in
-    (c .0, lines-read nothingYet 1 (linesOf file) names rules (c .1))
+    let b = unrefused (not (allBytes isText file)) 2 0 _ names rules a in
+    let c = unrefused (unended file) 3 0 _ names rules b in
+    lines-read nothingYet 1 (linesOf file) names rules c

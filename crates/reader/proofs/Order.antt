@@ -14,19 +14,19 @@ use Rattle.reader.specs.Conditions.{Row, None, First, _unless_}
 
 -- m is 0 and no condition is met, or m is the number that the rows give
 pub data Gives (m : ℕ) (rs : List Row) : Type 0 where
-  none : m ≡ 0 → None rs → Gives m rs
-  some : First m rs → Gives m rs
+  no-row : m ≡ 0 → None rs → Gives m rs
+  some-row : First m rs → Gives m rs
 
 pub gives-row : (n m : ℕ) (b : Bool) {P : Type 0} {rs : List Row} → ((b ≡ true) ↔ P) → (b ≡ false → Gives m rs) → Gives (n when b else m) ((n, P) ∷ rs)
-gives-row n m true d rest = some (inl (refl, d .0 refl))
+gives-row n m true d rest = some-row (inl (refl, d .0 refl))
 gives-row n m false {P} {rs} d rest = go (rest refl)
   where
     not-met : P → ⊥
     not-met p = clash (d .1 p) refl
 
     go : Gives m rs → Gives m ((n, P) ∷ rs)
-    go (none z r) = none z (not-met, r)
-    go (some f) = some (inr (not-met, f))
+    go (no-row z r) = no-row z (not-met, r)
+    go (some-row f) = some-row (inr (not-met, f))
 
 pub not-both : (k : ℕ) (rs : List Row) → First k rs → None rs → ⊥
 not-both k [] f n = f
@@ -43,43 +43,43 @@ first-one k m (r ∷ rs) (inr f) (inr g) = first-one k m rs (f .1) (g .1)
 -- ---- the numbers of rows
 
 -- all numbers are low to high
-abbrev pub between : ℕ → ℕ → List Row → Bool
-between low high [] = true
-between low high (r ∷ rs) = leb low (r .0) && leb (r .0) high && between low high rs
+abbrev pub numbersIn : ℕ → ℕ → List Row → Bool
+numbersIn low high [] = true
+numbersIn low high (r ∷ rs) = leb low (r .0) && leb (r .0) high && numbersIn low high rs
 
-pub first-between : (low high k : ℕ) (rs : List Row) → between low high rs ≡ true → First k rs → (low ≤ k) × (k ≤ high)
+pub first-between : (low high k : ℕ) (rs : List Row) → numbersIn low high rs ≡ true → First k rs → (low ≤ k) × (k ≤ high)
 first-between low high k [] b f = absurd f
 first-between low high k (r ∷ rs) b (inl f) =
-    let here = and-l (leb low (r .0) && leb (r .0) high) (between low high rs) b in
+    let here = and-l (leb low (r .0) && leb (r .0) high) (numbersIn low high rs) b in
     rw (f .0) (leb-true low (r .0) (and-l (leb low (r .0)) (leb (r .0) high) here), leb-true (r .0) high (and-r (leb low (r .0)) (leb (r .0) high) here))
 first-between low high k (r ∷ rs) b (inr f) =
-    first-between low high k rs (and-r (leb low (r .0) && leb (r .0) high) (between low high rs) b) (f .1)
+    first-between low high k rs (and-r (leb low (r .0) && leb (r .0) high) (numbersIn low high rs) b) (f .1)
 
-module _ (m : ℕ) (rs : List Row) (numbers : between 1 9 rs ≡ true) (g : Gives m rs) where
+module _ (m : ℕ) (rs : List Row) (numbers : numbersIn 1 9 rs ≡ true) (g : Gives m rs) where
   pub gives-none : (m ≡ 0) ↔ None rs
   gives-none = (there g, back g)
     where
       there : Gives m rs → m ≡ 0 → None rs
-      there (none z n) e = n
-      there (some f) e = let h = first-between 1 9 m rs numbers f .0 in absurd (omega arith)
+      there (no-row z n) e = n
+      there (some-row f) e = let h = first-between 1 9 m rs numbers f .0 in absurd (omega arith)
 
       back : Gives m rs → None rs → m ≡ 0
-      back (none z n) r = z
-      back (some f) r = absurd (not-both m rs f r)
+      back (no-row z n) r = z
+      back (some-row f) r = absurd (not-both m rs f r)
 
   pub gives-first : (k : ℕ) → First k rs → m ≡ k
   gives-first k f = go g
     where
       go : Gives m rs → m ≡ k
-      go (none z n) = absurd (not-both k rs f n)
-      go (some h) = first-one m k rs h f
+      go (no-row z n) = absurd (not-both k rs f n)
+      go (some-row h) = first-one m k rs h f
 
   pub gives-some : (m ≡ 0 → ⊥) → First m rs
   gives-some h = go g
     where
       go : Gives m rs → First m rs
-      go (none z n) = absurd (h z)
-      go (some f) = f
+      go (no-row z n) = absurd (h z)
+      go (some-row f) = f
 
 -- no row has the number k
 abbrev pub absent : ℕ → List Row → Bool

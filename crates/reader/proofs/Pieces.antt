@@ -71,7 +71,7 @@ pub fields-are : (line : List ℕ) (fs : List (List ℕ)) → (fields line ≡ f
 fields-are line fs = split-is 44 line fs
 
 pub lines-are : (file : List ℕ) (lines : List (List ℕ)) → (LastLineOpen file → ⊥) → (linesOf file ≡ lines) ↔ ((closed 10 lines ≡ file) × FreeOf 10 lines)
-lines-are file lines shut = subst (λ (l : List ℕ). (linesOf file ≡ lines) ↔ ((closed 10 lines ≡ l) × FreeOf 10 lines)) whole (split-is 10 (take (length file - 1) file) lines)
+lines-are file lines shut = subst (λ (l : List ℕ). (linesOf file ≡ lines) ↔ ((closed 10 lines ≡ l) × FreeOf 10 lines)) put-together (split-is 10 (take (length file - 1) file) lines)
   where
     some-bytes : (l : List ℕ) → (l ≡ [] → ⊥) → 0 < length l
     some-bytes [] n = absurd (n refl)
@@ -81,8 +81,8 @@ lines-are file lines shut = subst (λ (l : List ℕ). (linesOf file ≡ lines) �
     last (yes e) = e
     last (no n) = absurd (shut (inr n))
 
-    whole : take (length file - 1) file ++ 10 ∷ [] ≡ file
-    whole =
+    put-together : take (length file - 1) file ++ 10 ∷ [] ≡ file
+    put-together =
         let n = length file - 1 in
         let more = some-bytes file (λ e. shut (inl e)) in
         let all : suc n ≡ length file = omega arith in

@@ -18,29 +18,29 @@ use Rattle.scan.specs.declared.Word.the-variants.{Name, Rule as RuleWord, End, 
 use Rattle.scan.proofs.Places.{split-some}
 use Rattle.reader.specs.File.{Content, nothingYet, bodyLiterals, allFields, isLiteral, hasTilde, wrongFields, malformed, lineFault, entryFrom, ruleFrom, extended, withLine, accepted, maxBytes, linesOf, readFile}
 use Rattle.reader.specs.Conditions.{saidBy}
-use Rattle.reader.proofs.Faults.{Clear, clear, neither}
+use Rattle.reader.proofs.Faults.{Passes, line-passes, neither}
 use Rattle.reader.proofs.Lines.{Faultless, file-read}
 use Rattle.reader.proofs.Words.{IsWord, first-is}
 use Rattle.reader.proofs.Within.{Within, within-nothing, within-lines, name-length, lead-small, literals-append}
 
 -- ---- pieces, each with the stop behind it
 
-unfoldable pub total : List (List ℕ) → ℕ
-total [] = 0
-total (p ∷ ps) = suc (length p) + total ps
+unfoldable pub byteCount : List (List ℕ) → ℕ
+byteCount [] = 0
+byteCount (p ∷ ps) = suc (length p) + byteCount ps
 
-total-onto : (x : ℕ) (l : List (List ℕ)) → 0 < length l → total (onto x l) ≡ suc (total l)
-unfolding total
+total-onto : (x : ℕ) (l : List (List ℕ)) → 0 < length l → byteCount (onto x l) ≡ suc (byteCount l)
+unfolding byteCount
 total-onto x [] h = absurd (omega arith)
 total-onto x (p ∷ ps) h = omega arith
 
 -- the last piece has no stop behind it
-pub split-total : (stop : ℕ) (s : List ℕ) → total (split stop s) ≡ suc (length s)
-unfolding total split
+pub split-total : (stop : ℕ) (s : List ℕ) → byteCount (split stop s) ≡ suc (length s)
+unfolding byteCount split
 split-total stop [] = refl
 split-total stop (x ∷ xs) = go (eqb x stop) (split-total stop xs)
   where
-    go : (t : Bool) → total (split stop xs) ≡ suc (length xs) → total (cond t ([] ∷ split stop xs) (onto x (split stop xs))) ≡ suc (suc (length xs))
+    go : (t : Bool) → byteCount (split stop xs) ≡ suc (length xs) → byteCount (cond t ([] ∷ split stop xs) (onto x (split stop xs))) ≡ suc (suc (length xs))
     go true e = omega arith
     go false e = total-onto x (split stop xs) (split-some stop xs) ∙ ap suc e
 
@@ -64,8 +64,8 @@ head-length f e h = let z : tildes f ≡ 0 = none (tildes f) (lead-small 126 f) 
     none (suc n) h f = absurd (f (omega arith))
 
 -- fields that pass a test, each of which has less than k bytes
-fields-total : (f : List ℕ → Bool) (k : ℕ) → ((x : List ℕ) → f x ≡ true → length x < k) → (xs : List (List ℕ)) → allFields f xs ≡ true → total xs ≤ k * length xs
-unfolding total allFields
+fields-total : (f : List ℕ → Bool) (k : ℕ) → ((x : List ℕ) → f x ≡ true → length x < k) → (xs : List (List ℕ)) → allFields f xs ≡ true → byteCount xs ≤ k * length xs
+unfolding byteCount allFields
 fields-total f k h [] e = omega arith
 fields-total f k h (x ∷ xs) e =
     let here = h x (and-l (f x) (allFields f xs) e) in
@@ -78,15 +78,15 @@ unfoldable pub weight : Content → ℕ
 weight d = 22 * length (d .names) + 23 * length (d .rules) + 19 * bodyLiterals (d .rules) + cond (d .ended) 4 0
 
 module _ (d : Content) (first : List ℕ) where
-  weight-name : (others : List (List ℕ)) → first ≡ nameWord → Clear d Name others → weight d + total (first ∷ others) ≤ weight (extended d Name others)
-  unfolding extended wrongFields malformed total weight
+  weight-name : (others : List (List ℕ)) → first ≡ nameWord → Passes d Name others → weight d + byteCount (first ∷ others) ≤ weight (extended d Name others)
+  unfolding extended wrongFields malformed byteCount weight
   weight-name others e c =
       let one : length others ≡ 1 = eqb-true (length others) 1 (not-false (eqb (length others) 1) (c .right-fields)) in
       let short = fields-total isName 17 (λ x h. suc-le-suc (name-length x h .1)) others (not-false (allFields isName others) (c .well-formed)) in
       omega (arith, ap length e, length-append (d .names) others)
 
-  weight-rule : (others : List (List ℕ)) → first ≡ ruleWord → Clear d RuleWord others → weight d + total (first ∷ others) ≤ weight (extended d RuleWord others)
-  unfolding extended wrongFields malformed total weight allFields bodyLiterals
+  weight-rule : (others : List (List ℕ)) → first ≡ ruleWord → Passes d RuleWord others → weight d + byteCount (first ∷ others) ≤ weight (extended d RuleWord others)
+  unfolding extended wrongFields malformed byteCount weight allFields bodyLiterals
   weight-rule [] e c = absurd (true≢false (c .right-fields))
   weight-rule (h ∷ body) e c =
       let forms = neither (hasTilde h) (not (allFields isLiteral (h ∷ body))) (c .well-formed) in
@@ -96,25 +96,25 @@ module _ (d : Content) (first : List ℕ) where
       let new = ruleFrom (d .names) (h ∷ body) in
       omega (arith, ap length e, length-append (d .rules) new, literals-append (d .rules) new, length-map body (entryFrom (d .names)))
 
-  weight-end : (others : List (List ℕ)) → first ≡ endWord → Clear d End others → weight d + total (first ∷ others) ≤ weight (extended d End others)
-  unfolding extended wrongFields total weight
+  weight-end : (others : List (List ℕ)) → first ≡ endWord → Passes d End others → weight d + byteCount (first ∷ others) ≤ weight (extended d End others)
+  unfolding extended wrongFields byteCount weight
   weight-end [] e c = rw (c .not-ended) (omega (arith, ap length e))
   weight-end (x ∷ xs) e c = let none = eqb-true (suc (length xs)) 0 (not-false (eqb (suc (length xs)) 0) (c .right-fields)) in absurd (omega arith)
 
-  weight-word : (w : Word) (others : List (List ℕ)) → IsWord w first → Clear d w others → weight d + total (first ∷ others) ≤ weight (extended d w others)
+  weight-word : (w : Word) (others : List (List ℕ)) → IsWord w first → Passes d w others → weight d + byteCount (first ∷ others) ≤ weight (extended d w others)
   unfolding wrongFields
   weight-word Name others e c = weight-name others e c
   weight-word RuleWord others e c = weight-rule others e c
   weight-word End others e c = weight-end others e c
   weight-word Unknown others e c = absurd (true≢false (c .right-fields))
 
-weight-fields : (d : Content) (fs : List (List ℕ)) → lineFault d fs ≡ 0 → weight d + total fs ≤ weight (withLine d fs)
+weight-fields : (d : Content) (fs : List (List ℕ)) → lineFault d fs ≡ 0 → weight d + byteCount fs ≤ weight (withLine d fs)
 unfolding lineFault withLine
 weight-fields d [] e = absurd (omega arith)
-weight-fields d (first ∷ others) e = weight-word d first (wordOf first) others (first-is first) (clear d (wordOf first) others e)
+weight-fields d (first ∷ others) e = weight-word d first (wordOf first) others (first-is first) (line-passes d (wordOf first) others e)
 
-pub weight-lines : (d : Content) (lines : List (List ℕ)) → Faultless d lines → weight d + total lines ≤ weight (saidBy d lines)
-unfolding total
+pub weight-lines : (d : Content) (lines : List (List ℕ)) → Faultless d lines → weight d + byteCount lines ≤ weight (saidBy d lines)
+unfolding byteCount
 weight-lines d [] f = omega arith
 weight-lines d (line ∷ lines) f =
     let here = weight-fields d (fields line) (f .0) in
@@ -133,7 +133,7 @@ within-weight d w = go (d .ended)
 pub accepted-short : (file : List ℕ) (names : List (List ℕ)) (rules : List Rule) → readFile file ≡ accepted names rules → length file < maxBytes
 unfolding weight bodyLiterals
 accepted-short file names rules e =
-    let r = file-read file names rules e .1 in
-    let most = within-weight (saidBy nothingYet (linesOf file)) (within-lines nothingYet (linesOf file) within-nothing (r .faultless)) in
-    let bytes = weight-lines nothingYet (linesOf file) (r .faultless) in
+    let r = file-read file names rules e in
+    let most = within-weight (saidBy nothingYet (linesOf file)) (within-lines nothingYet (linesOf file) within-nothing (r .lines-pass)) in
+    let bytes = weight-lines nothingYet (linesOf file) (r .lines-pass) in
     omega (arith, split-total 10 (take (length file - 1) file), length-take (length file - 1) file)

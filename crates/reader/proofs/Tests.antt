@@ -30,14 +30,14 @@ use Rattle.reader.proofs.Faults.{neither, each-field, each-passes, all-
 pub fails : (b : Bool) {P : Type 0} → ((b ≡ true) ↔ P) → (b ≡ false) ↔ (P → ⊥)
 fails b d = (λ e p. clash (d .1 p) e, λ n. refuted (λ e. n (d .0 e)))
 
-either : (a b : Bool) {P Q : Type 0} → ((a ≡ true) ↔ P) → ((b ≡ true) ↔ Q) → (a || b ≡ true) ↔ (P ⊎ Q)
-either a b p q = (λ e. ⊎-elim (λ h. inl (p .0 h)) (λ h. inr (q .0 h)) (or-elim a b e), ⊎-elim (λ h. or-l a b (p .1 h)) (λ h. or-r a b (q .1 h)))
+or-is : (a b : Bool) {P Q : Type 0} → ((a ≡ true) ↔ P) → ((b ≡ true) ↔ Q) → (a || b ≡ true) ↔ (P ⊎ Q)
+or-is a b p q = (λ e. ⊎-elim (λ h. inl (p .0 h)) (λ h. inr (q .0 h)) (or-elim a b e), ⊎-elim (λ h. or-l a b (p .1 h)) (λ h. or-r a b (q .1 h)))
 
-both : (a b : Bool) {P Q : Type 0} → ((a ≡ true) ↔ P) → ((b ≡ true) ↔ Q) → (a && b ≡ true) ↔ (P × Q)
-both a b p q = (λ e. (p .0 (and-l a b e), q .0 (and-r a b e)), λ h. and-intro a b (p .1 (h .0)) (q .1 (h .1)))
+and-is : (a b : Bool) {P Q : Type 0} → ((a ≡ true) ↔ P) → ((b ≡ true) ↔ Q) → (a && b ≡ true) ↔ (P × Q)
+and-is a b p q = (λ e. (p .0 (and-l a b e), q .0 (and-r a b e)), λ h. and-intro a b (p .1 (h .0)) (q .1 (h .1)))
 
-opposite : (b : Bool) {P : Type 0} → ((b ≡ true) ↔ P) → (not b ≡ true) ↔ (P → ⊥)
-opposite b d = (λ e. fails b d .0 (not-true b e), λ n. not-intro (fails b d .1 n))
+not-is : (b : Bool) {P : Type 0} → ((b ≡ true) ↔ P) → (not b ≡ true) ↔ (P → ⊥)
+not-is b d = (λ e. fails b d .0 (not-true b e), λ n. not-intro (fails b d .1 n))
 
 leb-is : (a b : ℕ) → (leb a b ≡ true) ↔ (a ≤ b)
 leb-is a b = (leb-true a b, le-leb a b)
@@ -55,13 +55,13 @@ unfolding allBytes
 strange-byte file = fails-where isText (allBytes isText) refl (λ x xs. refl) file (λ b. (b ≡ 10) ⊎ ((32 ≤ b) × (b ≤ 126)) → ⊥) (λ b m. fails (isText b) (text b))
   where
     text : (b : ℕ) → (isText b ≡ true) ↔ ((b ≡ 10) ⊎ ((32 ≤ b) × (b ≤ 126)))
-    text b = either (eqb b 10) (leb 32 b && leb b 126) (eqb-is b 10) (both (leb 32 b) (leb b 126) (leb-is 32 b) (leb-is b 126))
+    text b = or-is (eqb b 10) (leb 32 b && leb b 126) (eqb-is b 10) (and-is (leb 32 b) (leb b 126) (leb-is 32 b) (leb-is b 126))
 
 pub last-open : (file : List ℕ) → (unended file ≡ true) ↔ LastLineOpen file
 last-open file =
     let last = getD file (length file - 1) 0 in
-    either (eqb (length file) 0) (not (eqb last 10)) (λ e. empty file (eqb-true (length file) 0 e), λ e. eq-eqb (length file) 0 (ap length e))
-    (opposite (eqb last 10) (eqb-is last 10))
+    or-is (eqb (length file) 0) (not (eqb last 10)) (λ e. empty file (eqb-true (length file) 0 e), λ e. eq-eqb (length file) 0 (ap length e))
+    (not-is (eqb last 10) (eqb-is last 10))
   where
     empty : (l : List ℕ) → length l ≡ 0 → l ≡ []
     empty [] e = refl
@@ -70,7 +70,7 @@ last-open file =
 -- ---- names and literals
 
 letter-is : (b : ℕ) → (isLetter (classOf b) ≡ true) ↔ LetterByte b
-letter-is b = go (leb 97 b && leb b 122) (leb 48 b && leb b 57) (eqb b 95) (both (leb 97 b) (leb b 122) (leb-is 97 b) (leb-is b 122))
+letter-is b = go (leb 97 b && leb b 122) (leb 48 b && leb b 57) (eqb b 95) (and-is (leb 97 b) (leb b 122) (leb-is 97 b) (leb-is b 122))
   where
     go : (s t u : Bool) → ((s ≡ true) ↔ LetterByte b) → (isLetter (cond s Letter (cond t Digit (cond u Underscore Other))) ≡ true) ↔ LetterByte b
     go true t u d = d
@@ -81,8 +81,8 @@ letter-is b = go (leb 97 b && leb b 122) (leb 48 b && leb b 57) (eqb b 95) (both
 byte-is : (b : ℕ) → (inName (classOf b) ≡ true) ↔ NameByte b
 byte-is b =
     go (leb 97 b && leb b 122) (leb 48 b && leb b 57) (eqb b 95)
-    (either (leb 97 b && leb b 122) ((leb 48 b && leb b 57) || eqb b 95) (both (leb 97 b) (leb b 122) (leb-is 97 b) (leb-is b 122))
-    (either (leb 48 b && leb b 57) (eqb b 95) (both (leb 48 b) (leb b 57) (leb-is 48 b) (leb-is b 57)) (eqb-is b 95)))
+    (or-is (leb 97 b && leb b 122) ((leb 48 b && leb b 57) || eqb b 95) (and-is (leb 97 b) (leb b 122) (leb-is 97 b) (leb-is b 122))
+    (or-is (leb 48 b && leb b 57) (eqb b 95) (and-is (leb 48 b) (leb b 57) (leb-is 48 b) (leb-is b 57)) (eqb-is b 95)))
   where
     go : (s t u : Bool) → ((s || (t || u) ≡ true) ↔ NameByte b) → (inName (cond s Letter (cond t Digit (cond u Underscore Other))) ≡ true) ↔ NameByte b
     go true t u d = d
@@ -95,7 +95,7 @@ letter-named b l = inl l
 
 pub name-is : (n : List ℕ) → (isName n ≡ true) ↔ NameText n
 unfolding isName allBytes
-name-is [] = (λ e. absurd (true≢false (sym e)), λ t. let h = t .some in absurd (omega arith))
+name-is [] = (λ e. absurd (true≢false (sym e)), λ t. let h = t .nonempty in absurd (omega arith))
 name-is (x ∷ xs) = (there, back)
   where
     named : ℕ → Bool
@@ -103,20 +103,20 @@ name-is (x ∷ xs) = (there, back)
 
     there : leb (length xs) 15 && (isLetter (classOf x) && allBytes named xs) ≡ true → NameText (x ∷ xs)
     there e =
-        let short = leb-true (length xs) 15 (and-l (leb (length xs) 15) (isLetter (classOf x) && allBytes named xs) e) in
+        let few = leb-true (length xs) 15 (and-l (leb (length xs) 15) (isLetter (classOf x) && allBytes named xs) e) in
         let rest = and-r (leb (length xs) 15) (isLetter (classOf x) && allBytes named xs) e in
         let first : LetterByte x = letter-is x .0 (and-l (isLetter (classOf x)) (allBytes named xs) rest) in
         let others = and-r (isLetter (classOf x)) (allBytes named xs) rest in
         record {
-          some = omega arith;
-          few = omega arith;
+          nonempty = omega arith;
+          short = omega arith;
           bytes = λ b m. ⊎-elim (λ q. rw q (letter-named x first)) (λ i. byte-is b .0 (each-passes named (allBytes named) refl (λ y ys. refl) i others)) (List·Memᴰ·cases-cons m);
           begins = first;
         }
 
     back : NameText (x ∷ xs) → leb (length xs) 15 && (isLetter (classOf x) && allBytes named xs) ≡ true
     back t =
-        let h = t .few in
+        let h = t .short in
         and-intro (leb (length xs) 15) (isLetter (classOf x) && allBytes named xs) (le-leb (length xs) 15 (omega arith))
         (and-intro (isLetter (classOf x)) (allBytes named xs) (letter-is x .1 (t .begins))
         (all-pass named (allBytes named) refl (λ y ys. refl) xs (λ b m. byte-is b .1 (t .bytes b (List·Memᴰ·tail m)))))
@@ -186,15 +186,15 @@ module _ (first : List ℕ) (others : List (List ℕ)) where
       n = length others
 
       by-name : (not (eqb n 1) ≡ true) ↔ (suc n ≡ 2 → ⊥)
-      by-name = opposite (eqb n 1) (λ e. ap suc (eqb-true n 1 e), λ e. eq-eqb n 1 (omega arith))
+      by-name = not-is (eqb n 1) (λ e. ap suc (eqb-true n 1 e), λ e. eq-eqb n 1 (omega arith))
 
       by-rule : (not (leb 1 n && leb n 17) ≡ true) ↔ ((2 ≤ suc n) × (suc n ≤ 18) → ⊥)
       by-rule =
-          opposite (leb 1 n && leb n 17)
-          (both (leb 1 n) (leb n 17) (λ e. suc-le-suc (leb-true 1 n e), λ h. le-leb 1 n (omega arith)) (λ e. suc-le-suc (leb-true n 17 e), λ h. le-leb n 17 (omega arith)))
+          not-is (leb 1 n && leb n 17)
+          (and-is (leb 1 n) (leb n 17) (λ e. suc-le-suc (leb-true 1 n e), λ h. le-leb 1 n (omega arith)) (λ e. suc-le-suc (leb-true n 17 e), λ h. le-leb n 17 (omega arith)))
 
       by-end : (not (eqb n 0) ≡ true) ↔ (suc n ≡ 1 → ⊥)
-      by-end = opposite (eqb n 0) (λ e. ap suc (eqb-true n 0 e), λ e. eq-eqb n 0 (omega arith))
+      by-end = not-is (eqb n 0) (λ e. ap suc (eqb-true n 0 e), λ e. eq-eqb n 0 (omega arith))
 
       there : (w : Word) → IsWord w first → wrongFields w others ≡ true → FieldsWrong (first ∷ others)
       there Name s e = inr (inl (s, by-name .0 e))
@@ -232,7 +232,7 @@ module _ (first : List ℕ) (others : List (List ℕ)) where
   unfolding malformed
   form-wrong =
       named-or-ruled (λ w. malformed w others) refl refl (some-field isName (λ n. NameText n → ⊥) (λ n m. fails (isName n) (name-is n)))
-      (λ s. either (headTilde others) (not (allFields isLiteral others)) (tilde others)
+      (λ s. or-is (headTilde others) (not (allFields isLiteral others)) (tilde others)
       (some-field isLiteral (λ f. (n : List ℕ) → LiteralText f n → ⊥) (λ f m. not-literal f)))
     where
       tilde-is : (h : List ℕ) → (hasTilde h ≡ true) ↔ ((rest : List ℕ) × (h ≡ 126 ∷ rest))
@@ -283,7 +283,7 @@ module _ (first : List ℕ) (others : List (List ℕ)) where
   table-full d =
       let used = bodyLiterals (d .rules) in
       named-or-ruled (λ w. beyondTable d w others) refl refl (full maxNames (length (d .names)))
-      (λ s. either (leb maxRules (length (d .rules))) (ltb maxEntries (used + (length others - 1))) (full maxRules (length (d .rules)))
+      (λ s. or-is (leb maxRules (length (d .rules))) (ltb maxEntries (used + (length others - 1))) (full maxRules (length (d .rules)))
       (λ e. let h = ltb-true maxEntries (used + (length others - 1)) e in omega arith, λ h. lt-ltb maxEntries (used + (length others - 1)) (omega arith)))
     where
       full : (most n : ℕ) → (leb most n ≡ true) ↔ (most < n + 1)

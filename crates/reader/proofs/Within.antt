@@ -20,7 +20,7 @@ use Rattle.book.specs.Book.{sameName, findFrom}
 use Rattle.book.specs.declared.Found.the-variants.{At}
 use Rattle.reader.specs.File.{Content, nothingYet, bodyLiterals, allFields, isFound, declared, wrongFields, malformed, usesUndeclared, beyondTable, lineFault, numberIn, literalNumber, entryFrom, hasTilde, ruleFrom, extended, withLine, accepted, linesOf, readFile}
 use Rattle.reader.specs.Conditions.{saidBy}
-use Rattle.reader.proofs.Faults.{Clear, clear, neither, each-field}
+use Rattle.reader.proofs.Faults.{Passes, line-passes, neither, each-field}
 use Rattle.reader.proofs.Lines.{Faultless, file-read}
 
 -- the literal of an entry
@@ -101,7 +101,7 @@ one-more : {X : Type 0} (P : X → Type 0) {l : List X} {x : X} → ((y : X) →
 one-more P {l} {x} f p y m = ⊎-elim (f y) (λ i. subst P (sym (List·Memᴰ·eq-of-singleton i)) p) (List·Memᴰ·append-cases l m)
 
 module _ (d : Content) (w : Within d) where
-  within-name : (others : List (List ℕ)) → Clear d Name others → Within (extended d Name others)
+  within-name : (others : List (List ℕ)) → Passes d Name others → Within (extended d Name others)
   unfolding extended wrongFields malformed beyondTable
   within-name others c =
       let one : length others ≡ 1 = eqb-true (length others) 1 (not-false (eqb (length others) 1) (c .right-fields)) in
@@ -118,7 +118,7 @@ module _ (d : Content) (w : Within d) where
         entries-known = λ r m e i. omega (arith, w .entries-known r m e i);
       }
 
-  within-rule : (others : List (List ℕ)) → Clear d RuleWord others → Within (extended d RuleWord others)
+  within-rule : (others : List (List ℕ)) → Passes d RuleWord others → Within (extended d RuleWord others)
   unfolding extended wrongFields beyondTable usesUndeclared bodyLiterals
   within-rule [] c = absurd (true≢false (c .right-fields))
   within-rule (h ∷ body) c =
@@ -164,7 +164,7 @@ module _ (d : Content) (w : Within d) where
         entries-known = w .entries-known;
       }
 
-  within-word : (v : Word) (others : List (List ℕ)) → Clear d v others → Within (extended d v others)
+  within-word : (v : Word) (others : List (List ℕ)) → Passes d v others → Within (extended d v others)
   unfolding extended
   within-word Name others c = within-name others c
   within-word RuleWord others c = within-rule others c
@@ -174,7 +174,7 @@ module _ (d : Content) (w : Within d) where
 pub within-line : (d : Content) (fs : List (List ℕ)) → Within d → lineFault d fs ≡ 0 → Within (withLine d fs)
 unfolding lineFault withLine
 within-line d [] w e = w
-within-line d (first ∷ others) w e = within-word d w (wordOf first) others (clear d (wordOf first) others e)
+within-line d (first ∷ others) w e = within-word d w (wordOf first) others (line-passes d (wordOf first) others e)
 
 -- ---- a whole file
 
@@ -185,5 +185,5 @@ within-lines d (line ∷ lines) w f = within-lines (withLine d (fields line)) li
 pub accepted-within : (file : List ℕ) (names : List (List ℕ)) (rules : List Rule) → readFile file ≡ accepted names rules
     → Within (record { names = names; rules = rules; ended = true })
 accepted-within file names rules e =
-    let r = file-read file names rules e .1 in
-    rw (← r .its-names, ← r .its-rules, ← r .ends) (within-lines nothingYet (linesOf file) within-nothing (r .faultless))
+    let r = file-read file names rules e in
+    rw (← r .its-names, ← r .its-rules, ← r .ends) (within-lines nothingYet (linesOf file) within-nothing (r .lines-pass))

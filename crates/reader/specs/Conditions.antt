@@ -23,8 +23,8 @@ NameByte b = LetterByte b ⊎ ((48 ≤ b) × (b ≤ 57)) ⊎ (b ≡ 95)
 
 -- a NAME
 pub record NameText (n : List ℕ) : Type 0 where
-  pub some : 1 ≤ length n
-  pub few : length n ≤ maxLength
+  pub nonempty : 1 ≤ length n
+  pub short : length n ≤ maxLength
   pub bytes : (b : ℕ) → b isIn n → NameByte b
   pub begins : LetterByte (getD n 0 0)
 
@@ -122,6 +122,9 @@ P unless Q = (Q → ⊥) × P
 
 -- ---- the lines of a file
 
+-- `proofs/Pieces.antt` shows that `linesOf` and `fields` give the one way to part the bytes, and `proofs/Said.antt` says of the lines before what their
+-- names and their `end` are.
+
 -- pieces, each with the byte `stop` behind it: a file is its lines with byte 10 behind each
 unfoldable pub closed : ℕ → List (List ℕ) → List ℕ
 closed stop [] = []
@@ -137,19 +140,19 @@ saidBy d [] = d
 saidBy d (line ∷ lines) = saidBy (withLine d (fields line)) lines
 
 -- none of the lines is faulty after d and the lines before it
-abbrev pub Sound : Content → List (List ℕ) → Type 0
-Sound d [] = Unit
-Sound d (line ∷ lines) = None (fieldRows d (fields line)) × Sound (withLine d (fields line)) lines
+abbrev pub NoFaults : Content → List (List ℕ) → Type 0
+NoFaults d [] = Unit
+NoFaults d (line ∷ lines) = None (fieldRows d (fields line)) × NoFaults (withLine d (fields line)) lines
 
 -- Lines are judged up to line `at`: none of 1 to 3 is met, the lines before it are not faulty and say d, and it has the fields fs.
 pub record Judged (file : List ℕ) (at : ℕ) (d : Content) (fs : List (List ℕ)) : Type 0 where
-  pub whole : None (fileRows file)
+  pub file-passed : None (fileRows file)
   pub before : List (List ℕ)
   pub line : List ℕ
   pub after : List (List ℕ)
   pub parts : linesOf file ≡ before ++ line ∷ after
   pub place : at ≡ length before + 1
-  pub sound : Sound nothingYet before
+  pub sound : NoFaults nothingYet before
   pub said : saidBy nothingYet before ≡ d
   pub its-fields : fields line ≡ fs
 
@@ -159,9 +162,9 @@ OnLine file at C = (d : Content) × (fs : List (List ℕ)) × Judged file at d f
 
 -- All lines are judged, and `at` is the line after the last.
 pub record Through (file : List ℕ) (at : ℕ) (d : Content) : Type 0 where
-  pub whole : None (fileRows file)
+  pub file-passed : None (fileRows file)
   pub place : at ≡ length (linesOf file) + 1
-  pub sound : Sound nothingYet (linesOf file)
+  pub sound : NoFaults nothingYet (linesOf file)
   pub said : saidBy nothingYet (linesOf file) ≡ d
 
 -- 9: no `end`, with the line after the last
