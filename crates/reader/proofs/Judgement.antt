@@ -18,8 +18,8 @@ use Rattle.reader.specs.File.{Content, nothingYet, bodyLiterals, allFiel
 use Rattle.reader.specs.Steps.{NameTable, RuleTable, Holds, nameFault, ruleFault, LineRead}
 use Rattle.reader.proofs.Held.{codes-length}
 use Rattle.reader.specs.declared.Counts.{Counts}
-use Rattle.reader.specs.declared.Judged.{Judged}
-use Rattle.reader.specs.declared.Judged.the-variants.{Fine, Fault}
+use Rattle.reader.specs.declared.LineAnswer.{LineAnswer}
+use Rattle.reader.specs.declared.LineAnswer.the-variants.{Fine, Fault}
 
 -- ---- the fault by the first field
 
@@ -195,12 +195,12 @@ module _ {d : Content} {t : Counts} {text lengths heads starts entries : List �
       ap length (r .entries-are) ∙ padded-length maxEntries (allCodes (d .rules)) (omega (arith, codes-length (d .rules), r .used-is, r .room))
 
 -- a line's judgement by its case
-module _ (d : Content) (fs : List (List ℕ)) (j : Judged) (text lengths heads starts entries : List ℕ) (told : LineRead d fs j text lengths heads starts entries) where
+module _ (d : Content) (fs : List (List ℕ)) (j : LineAnswer) (text lengths heads starts entries : List ℕ) (told : LineRead d fs j text lengths heads starts entries) where
   pub was-fine : (t : Counts) → j ≡ Fine t → (lineFault d fs ≡ 0) × Holds (withLine d fs) t text lengths heads starts entries
-  was-fine t e = subst (λ (x : Judged). LineRead d fs x text lengths heads starts entries) e told
+  was-fine t e = subst (λ (x : LineAnswer). LineRead d fs x text lengths heads starts entries) e told
 
   pub was-fault : (k : ℕ) → j ≡ Fault k → (lineFault d fs ≡ k) × (k ≡ 0 → ⊥)
-  was-fault k e = subst (λ (x : Judged). LineRead d fs x text lengths heads starts entries) e told
+  was-fault k e = subst (λ (x : LineAnswer). LineRead d fs x text lengths heads starts entries) e told
 
 -- ---- the whole file, by the tests in their order
 

@@ -1,14 +1,27 @@
--- What has been read without a fault is within the tables.
-use mathlib.Core.Path.{_≡_}
-use mathlib.Core.Bool.{true}
-use mathlib.Core.List.{List}
-use Prim.Native.Nat.{ℕ, _*_, _≤_, _<_}
-use lib.ListN.{length}
+-- What has been read without a fault is within the tables: each line that is not faulty passed the tests of numbers 4 to 8, and these bound what it
+-- adds. So an accepted file is within them too.
+use mathlib.Core.Path.{_≡_, refl, sym, ap, _∙_, subst}
+use mathlib.Core.Logic.{⊎-elim}
+use mathlib.Core.Bool.{Bool, true, false, cond, _&&_, true≢false}
+use mathlib.Core.List.{List, [], _∷_, _++_, map, List·Memᴰ·head, List·Memᴰ·tail, List·Memᴰ·not-nil, List·Memᴰ·append-cases, List·Memᴰ·eq-of-singleton, Memᴰ·of-map}
+use Prim.Native.Nat.{ℕ, suc, _+_, _-_, _*_, _≤_, _<_}
+use native.Mathlib.Omega.{arith}
+use lib.Dec.{eqb, leb, ltb}
+use lib.ListN.{length, drop, length-append, length-map}
+use borrow.Author.Tests.{leb-true, leb-false, ltb-false, eqb-true, not-false}
 use Rattle.wfsx.specs.Sets.{_isIn_}
 use Rattle.wfsx.specs.Program.{Entry, positive, default, Rule}
-use Rattle.scan.specs.Text.{isName}
+use Rattle.wfsx.proofs.Sets.{and-l, and-r}
+use Rattle.scan.specs.Text.{fields, allBytes, classOf, isLetter, inName, isName, wordOf, lead, tildes, nameOf}
+use Rattle.scan.specs.declared.Word.{Word}
+use Rattle.scan.specs.declared.Word.the-variants.{Name, Rule as RuleWord, End, Unknown}
 use Rattle.book.specs.Limits.{maxNames, maxRules, maxEntries}
-use Rattle.reader.specs.File.{Content, bodyLiterals}
+use Rattle.book.specs.Book.{sameName, findFrom}
+use Rattle.book.specs.declared.Found.the-variants.{At}
+use Rattle.reader.specs.File.{Content, nothingYet, bodyLiterals, allFields, isFound, declared, wrongFields, malformed, usesUndeclared, beyondTable, lineFault, numberIn, literalNumber, entryFrom, hasTilde, ruleFrom, extended, withLine, accepted, linesOf, readFile}
+use Rattle.reader.specs.Conditions.{saidBy}
+use Rattle.reader.proofs.Faults.{Passes, line-passes, neither, each-field}
+use Rattle.reader.proofs.Lines.{Faultless, file-read}
 
 -- the literal of an entry
 abbrev pub literalIn : Entry → ℕ
@@ -23,3 +36,154 @@ pub record Within (d : Content) : Type 0 where
   pub bodies-fit : (r : Rule) → r isIn d .rules → length (r .body) ≤ 16
   pub heads-known : (r : Rule) → r isIn d .rules → r .head < 2 * length (d .names)
   pub entries-known : (r : Rule) → r isIn d .rules → (e : Entry) → e isIn r .body → literalIn e < 2 * length (d .names)
+
+-- ---- names, literals and rules one by one
+
+pub name-length : (n : List ℕ) → isName n ≡ true → (1 ≤ length n) × (length n ≤ 16)
+unfolding isName
+name-length [] e = absurd (true≢false (sym e))
+name-length (x ∷ xs) e =
+    let few : length xs ≤ 15 = leb-true (length xs) 15 (and-l (leb (length xs) 15) (isLetter (classOf x) && allBytes (λ b. inName (classOf b)) xs) e) in
+    (omega arith, omega arith)
+
+pub lead-small : (b : ℕ) (s : List ℕ) → lead b s ≤ 1
+lead-small b [] = omega arith
+lead-small b (x ∷ xs) = go (eqb x b)
+  where
+    go : (t : Bool) → cond t 1 0 ≤ 1
+    go true = omega arith
+    go false = omega arith
+
+-- a name that is found has a number below the count of names
+pub found-below : (k : ℕ) (n : List ℕ) (names : List (List ℕ)) → isFound (findFrom k n names) ≡ true → numberIn (findFrom k n names) < k + length names
+unfolding findFrom
+found-below k n [] e = absurd (true≢false (sym e))
+found-below k n (m ∷ ms) e = go (sameName m n) (found-below (suc k) n ms) e
+  where
+    go : (t : Bool) → (isFound (findFrom (suc k) n ms) ≡ true → numberIn (findFrom (suc k) n ms) < suc k + length ms)
+        → isFound (cond t (At k) (findFrom (suc k) n ms)) ≡ true → numberIn (cond t (At k) (findFrom (suc k) n ms)) < k + suc (length ms)
+    go true rest h = omega arith
+    go false rest h = let r = rest h in omega arith
+
+pub literal-below : (names : List (List ℕ)) (f : List ℕ) → declared names (nameOf f) ≡ true → literalNumber names f < 2 * length names
+unfolding literalNumber
+literal-below names f e = omega (arith, found-below 0 (nameOf f) names e, lead-small 45 (drop (tildes f) f))
+
+entry-literal : (names : List (List ℕ)) (f : List ℕ) → literalIn (entryFrom names f) ≡ literalNumber names f
+unfolding entryFrom
+entry-literal names f = go (hasTilde f)
+  where
+    go : (t : Bool) → literalIn (cond t (default (literalNumber names f)) (positive (literalNumber names f))) ≡ literalNumber names f
+    go true = refl
+    go false = refl
+
+pub literals-append : (rs qs : List Rule) → bodyLiterals (rs ++ qs) ≡ bodyLiterals rs + bodyLiterals qs
+unfolding bodyLiterals
+literals-append [] qs = omega arith
+literals-append (r ∷ rs) qs = omega (arith, literals-append rs qs)
+
+-- ---- one line
+
+pub within-nothing : Within nothingYet
+unfolding bodyLiterals
+within-nothing =
+    record {
+      few-names = omega arith;
+      names-fit = λ n m. absurd (List·Memᴰ·not-nil m);
+      few-rules = omega arith;
+      few-literals = omega arith;
+      bodies-fit = λ r m. absurd (List·Memᴰ·not-nil m);
+      heads-known = λ r m. absurd (List·Memᴰ·not-nil m);
+      entries-known = λ r m. absurd (List·Memᴰ·not-nil m);
+    }
+
+one-more : {X : Type 0} (P : X → Type 0) {l : List X} {x : X} → ((y : X) → y isIn l → P y) → P x → (y : X) → y isIn l ++ (x ∷ []) → P y
+one-more P {l} {x} f p y m = ⊎-elim (f y) (λ i. subst P (sym (List·Memᴰ·eq-of-singleton i)) p) (List·Memᴰ·append-cases l m)
+
+module _ (d : Content) (w : Within d) where
+  within-name : (others : List (List ℕ)) → Passes d Name others → Within (extended d Name others)
+  unfolding extended wrongFields malformed beyondTable
+  within-name others c =
+      let one : length others ≡ 1 = eqb-true (length others) 1 (not-false (eqb (length others) 1) (c .right-fields)) in
+      let room : length (d .names) < maxNames = leb-false maxNames (length (d .names)) (c .in-table) in
+      let named : allFields isName others ≡ true = not-false (allFields isName others) (c .well-formed) in
+      let grown : length (d .names ++ others) ≡ length (d .names) + 1 = length-append (d .names) others ∙ ap (λ (k : ℕ). length (d .names) + k) one in
+      record {
+        few-names = omega arith;
+        names-fit = λ n m. ⊎-elim (λ i. w .names-fit n i) (λ i. each-field isName i named) (List·Memᴰ·append-cases (d .names) m);
+        few-rules = w .few-rules;
+        few-literals = w .few-literals;
+        bodies-fit = w .bodies-fit;
+        heads-known = λ r m. omega (arith, w .heads-known r m);
+        entries-known = λ r m e i. omega (arith, w .entries-known r m e i);
+      }
+
+  within-rule : (others : List (List ℕ)) → Passes d RuleWord others → Within (extended d RuleWord others)
+  unfolding extended wrongFields beyondTable usesUndeclared bodyLiterals
+  within-rule [] c = absurd (true≢false (c .right-fields))
+  within-rule (h ∷ body) c =
+      let some = leb 1 (suc (length body)) in
+      let most = leb (suc (length body)) 17 in
+      let few : suc (length body) ≤ 17 = leb-true (suc (length body)) 17 (and-r some most (not-false (some && most) (c .right-fields))) in
+      let full = leb maxRules (length (d .rules)) in
+      let long = ltb maxEntries (bodyLiterals (d .rules) + (suc (length body) - 1)) in
+      let room : length (d .rules) < maxRules = leb-false maxRules (length (d .rules)) (neither full long (c .in-table) .0) in
+      let space = ltb-false maxEntries (bodyLiterals (d .rules) + (suc (length body) - 1)) (neither full long (c .in-table) .1) in
+      let known : List ℕ → Bool = λ f. declared (d .names) (nameOf f) in
+      let all-known = not-false (allFields known (h ∷ body)) (c .all-declared) in
+      let entries = map (entryFrom (d .names)) body in
+      let size : length entries ≡ length body = length-map body (entryFrom (d .names)) in
+      let new = ruleFrom (d .names) (h ∷ body) in
+      let grown : length (d .rules ++ new) ≡ length (d .rules) + 1 = length-append (d .rules) new in
+      let longer = literals-append (d .rules) new in
+      let head-known : literalNumber (d .names) h < 2 * length (d .names) = literal-below (d .names) h (each-field known (List·Memᴰ·head refl) all-known) in
+      let entry-known : (e : Entry) → e isIn entries → literalIn e < 2 * length (d .names) = λ e i.
+      let s = Memᴰ·of-map (entryFrom (d .names)) body i in
+      let below = literal-below (d .names) (s .0) (each-field known (List·Memᴰ·tail (s .1)) all-known) in
+      omega (arith, ap literalIn (s .2), entry-literal (d .names) (s .0)) in
+      record {
+        few-names = w .few-names;
+        names-fit = w .names-fit;
+        few-rules = omega arith;
+        few-literals = omega arith;
+        bodies-fit = one-more (λ r. length (r .body) ≤ 16) (w .bodies-fit) (omega arith);
+        heads-known = one-more (λ r. r .head < 2 * length (d .names)) (w .heads-known) head-known;
+        entries-known = one-more (λ r. (e : Entry) → e isIn r .body → literalIn e < 2 * length (d .names)) (w .entries-known) entry-known;
+      }
+
+  within-end : (others : List (List ℕ)) → Within (extended d End others)
+  unfolding extended
+  within-end others =
+      record {
+        few-names = w .few-names;
+        names-fit = w .names-fit;
+        few-rules = w .few-rules;
+        few-literals = w .few-literals;
+        bodies-fit = w .bodies-fit;
+        heads-known = w .heads-known;
+        entries-known = w .entries-known;
+      }
+
+  within-word : (v : Word) (others : List (List ℕ)) → Passes d v others → Within (extended d v others)
+  unfolding extended
+  within-word Name others c = within-name others c
+  within-word RuleWord others c = within-rule others c
+  within-word End others c = within-end others
+  within-word Unknown others c = w
+
+pub within-line : (d : Content) (fs : List (List ℕ)) → Within d → lineFault d fs ≡ 0 → Within (withLine d fs)
+unfolding lineFault withLine
+within-line d [] w e = w
+within-line d (first ∷ others) w e = within-word d w (wordOf first) others (line-passes d (wordOf first) others e)
+
+-- ---- a whole file
+
+pub within-lines : (d : Content) (lines : List (List ℕ)) → Within d → Faultless d lines → Within (saidBy d lines)
+within-lines d [] w f = w
+within-lines d (line ∷ lines) w f = within-lines (withLine d (fields line)) lines (within-line d (fields line) w (f .0)) (f .1)
+
+pub accepted-within : (file : List ℕ) (names : List (List ℕ)) (rules : List Rule) → readFile file ≡ accepted names rules
+    → Within (record { names = names; rules = rules; ended = true })
+accepted-within file names rules e =
+    let r = file-read file names rules e in
+    rw (← r .its-names, ← r .its-rules, ← r .ends) (within-lines nothingYet (linesOf file) within-nothing (r .lines-pass))

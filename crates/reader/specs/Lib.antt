@@ -1,4 +1,5 @@
 -- What a marking file says.
 pub mod File
+pub mod Conditions
 pub mod Loading
 pub mod Steps

@@ -15,8 +15,8 @@ use Rattle.book.specs.declared.Found.{Found}
 use Rattle.book.specs.declared.Found.the-variants.{Nothing, At}
 use Rattle.reader.specs.File.{Content, bodyLiterals, allFields, isLiteral, declared, headTilde, _when_else_, ruleFrom, lineFault, withLine}
 use Rattle.reader.specs.declared.Counts.{Counts}
-use Rattle.reader.specs.declared.Judged.{Judged}
-use Rattle.reader.specs.declared.Judged.the-variants.{Fine, Fault}
+use Rattle.reader.specs.declared.LineAnswer.{LineAnswer}
+use Rattle.reader.specs.declared.LineAnswer.the-variants.{Fine, Fault}
 use Rattle.reader.specs.declared.Known.{Known}
 use Rattle.reader.specs.declared.Known.the-variants.{Undeclared, Entry}
 
@@ -88,6 +88,6 @@ pub record RuleRead (names : List (List ℕ)) (rules : List Rule) (count used n 
   pub added : fault ≡ 0 → RuleTable (rules ++ ruleFrom names fs) (count + 1) (used + n) heads starts entries
 
 -- a line leaves the tables with what it says added, or its fault
-abbrev pub LineRead : Content → List (List ℕ) → Judged → List ℕ → List ℕ → List ℕ → List ℕ → List ℕ → Type 0
+abbrev pub LineRead : Content → List (List ℕ) → LineAnswer → List ℕ → List ℕ → List ℕ → List ℕ → List ℕ → Type 0
 LineRead d fs (Fine t) text lengths heads starts entries = (lineFault d fs ≡ 0) × Holds (withLine d fs) t text lengths heads starts entries
 LineRead d fs (Fault k) text lengths heads starts entries = (lineFault d fs ≡ k) × (k ≡ 0 → ⊥)

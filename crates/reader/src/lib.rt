@@ -211,7 +211,7 @@ pub struct Counts {
 }
 
 // A line without a fault, with the counts behind it, or its fault.
-pub enum Judged {
+pub enum LineAnswer {
     Fine(Counts),
     Fault(u8),
 }
@@ -224,26 +224,26 @@ fn judge(
     starts: &mut [u16],
     entries: &mut [u16],
     line: &[u8],
-) -> Judged
+) -> LineAnswer
     requires { ⌜ (t .names ≤ 128) × (t .rules ≤ 512) × (t .used ≤ 2048) ⌝ }
     ensures { λ r. ⌜ ((d : Content) → Holds d t (now (text .entry)) (now (lengths .entry)) (now (heads .entry)) (now (starts .entry)) (now (entries .entry)) → LineRead d (fields (now (line .entry))) r (now (text .exit)) (now (lengths .exit)) (now (heads .exit)) (now (starts .exit)) (now (entries .exit))) ⌝ }
 {
     if t.ended {
-        return Judged::Fault(9);
+        return LineAnswer::Fault(9);
     }
     let e = scan::end_of(line, 0, b',');
     let n = scan::pieces(line, b',');
     match scan::word_of(&line[0..e]) {
         Word::Name => {
             if n != 2 {
-                return Judged::Fault(4);
+                return LineAnswer::Fault(4);
             }
             let f = scan::end_of(line, e + 1, b',');
             let v = name_line(t.names, text, lengths, &line[e + 1..f]);
             if v != 0 {
-                return Judged::Fault(v);
+                return LineAnswer::Fault(v);
             }
-            Judged::Fine(Counts {
+            LineAnswer::Fine(Counts {
                 names: t.names + 1,
                 rules: t.rules,
                 used: t.used,
@@ -252,16 +252,16 @@ fn judge(
         }
         Word::Rule => {
             if n < 2 {
-                return Judged::Fault(4);
+                return LineAnswer::Fault(4);
             }
             if 18 < n {
-                return Judged::Fault(4);
+                return LineAnswer::Fault(4);
             }
             let v = rule_line(t, text, lengths, heads, starts, entries, line, e + 1, n - 2);
             if v != 0 {
-                return Judged::Fault(v);
+                return LineAnswer::Fault(v);
             }
-            Judged::Fine(Counts {
+            LineAnswer::Fine(Counts {
                 names: t.names,
                 rules: t.rules + 1,
                 used: t.used + (n - 2),
@@ -270,16 +270,16 @@ fn judge(
         }
         Word::End => {
             if n != 1 {
-                return Judged::Fault(4);
+                return LineAnswer::Fault(4);
             }
-            Judged::Fine(Counts {
+            LineAnswer::Fine(Counts {
                 names: t.names,
                 rules: t.rules,
                 used: t.used,
                 ended: true,
             })
         }
-        Word::Unknown => Judged::Fault(4),
+        Word::Unknown => LineAnswer::Fault(4),
     }
 }
 
@@ -311,10 +311,10 @@ fn read_lines(b: &[u8]) -> Loaded
             &mut entries,
             &b[at..e],
         ) {
-            Judged::Fine(u) => {
+            LineAnswer::Fine(u) => {
                 t = u;
             }
-            Judged::Fault(k) => {
+            LineAnswer::Fault(k) => {
                 return refusal(k, number);
             }
         }

@@ -1,0 +1,290 @@
+-- Each test of the definition of a marking file is true exactly where its condition is met. Number 7 speaks of the name of a literal, so its test and
+-- its condition agree on a line that isn't faulty by 5.
+use mathlib.Core.Path.{_≡_, refl, sym, ap, subst}
+use mathlib.Core.Logic.{_⊎_, inl, inr, ⊎-elim, _↔_}
+use mathlib.Core.Bool.{Bool, true, false, not, cond, _&&_, _||_, true≢false}
+use mathlib.Core.List.{List, [], _∷_, List·Memᴰ·head, List·Memᴰ·tail, List·Memᴰ·not-nil, List·Memᴰ·cases-cons}
+use Prim.Native.Nat.{ℕ, suc, _+_, _-_, _≤_, _<_, suc-le-suc}
+use native.Mathlib.Omega.{arith}
+use lib.Dec.{eqb, leb, ltb}
+use lib.ListN.{length, getD, drop}
+use borrow.Author.Tests.{ltb-true, lt-ltb, leb-true, le-leb, eqb-true, eq-eqb, ne-eqb, not-true, not-false}
+use Rattle.wfsx.specs.Sets.{_isIn_}
+use Rattle.wfsx.proofs.Sets.{clash, refuted, not-intro, and-l, and-r, and-intro, or-elim, or-l, or-r}
+use Rattle.scan.specs.Text.{isText, classOf, isLetter, inName, allBytes, isName, lead, tildes, nameOf, nameWord, ruleWord, wordOf}
+use Rattle.scan.specs.declared.Class.the-variants.{Letter, Digit, Underscore, Other}
+use Rattle.scan.specs.declared.Word.{Word}
+use Rattle.scan.specs.declared.Word.the-variants.{Name, Rule as RuleWord, End, Unknown}
+use Rattle.scan.proofs.Bytes.{same-equal, same-is}
+use Rattle.book.specs.Limits.{maxNames, maxRules, maxEntries}
+use Rattle.book.specs.Book.{sameName, findFrom}
+use Rattle.book.specs.declared.Found.the-variants.{At}
+use Rattle.reader.specs.File.{Content, bodyLiterals, allFields, isLiteral, hasTilde, isFound, declared, wrongFields, headTilde, malformed, declaredBefore, usesUndeclared, beyondTable, maxBytes, unended}
+use Rattle.reader.specs.Conditions.{LetterByte, NameByte, NameText, Optional, LiteralText, TooLong, StrangeByte, LastLineOpen, SomeField, FieldsWrong, FormWrong, NameTaken, NameMissing, TableFull}
+use Rattle.reader.proofs.Words.{IsWord, first-is, word-is}
+use Rattle.reader.proofs.Faults.{neither, each-field, each-passes, all-pass, fails-where}
+
+-- ---- decided statements
+
+-- where a test decides P, its failure is that P does not hold
+pub fails : (b : Bool) {P : Type 0} → ((b ≡ true) ↔ P) → (b ≡ false) ↔ (P → ⊥)
+fails b d = (λ e p. clash (d .1 p) e, λ n. refuted (λ e. n (d .0 e)))
+
+or-is : (a b : Bool) {P Q : Type 0} → ((a ≡ true) ↔ P) → ((b ≡ true) ↔ Q) → (a || b ≡ true) ↔ (P ⊎ Q)
+or-is a b p q = (λ e. ⊎-elim (λ h. inl (p .0 h)) (λ h. inr (q .0 h)) (or-elim a b e), ⊎-elim (λ h. or-l a b (p .1 h)) (λ h. or-r a b (q .1 h)))
+
+and-is : (a b : Bool) {P Q : Type 0} → ((a ≡ true) ↔ P) → ((b ≡ true) ↔ Q) → (a && b ≡ true) ↔ (P × Q)
+and-is a b p q = (λ e. (p .0 (and-l a b e), q .0 (and-r a b e)), λ h. and-intro a b (p .1 (h .0)) (q .1 (h .1)))
+
+not-is : (b : Bool) {P : Type 0} → ((b ≡ true) ↔ P) → (not b ≡ true) ↔ (P → ⊥)
+not-is b d = (λ e. fails b d .0 (not-true b e), λ n. not-intro (fails b d .1 n))
+
+leb-is : (a b : ℕ) → (leb a b ≡ true) ↔ (a ≤ b)
+leb-is a b = (leb-true a b, le-leb a b)
+
+eqb-is : (a b : ℕ) → (eqb a b ≡ true) ↔ (a ≡ b)
+eqb-is a b = (eqb-true a b, eq-eqb a b)
+
+-- ---- numbers 1 to 3
+
+pub too-long : (file : List ℕ) → (ltb maxBytes (length file) ≡ true) ↔ TooLong file
+too-long file = (ltb-true maxBytes (length file), lt-ltb maxBytes (length file))
+
+pub strange-byte : (file : List ℕ) → (not (allBytes isText file) ≡ true) ↔ StrangeByte file
+unfolding allBytes
+strange-byte file = fails-where isText (allBytes isText) refl (λ x xs. refl) file (λ b. (b ≡ 10) ⊎ ((32 ≤ b) × (b ≤ 126)) → ⊥) (λ b m. fails (isText b) (text b))
+  where
+    text : (b : ℕ) → (isText b ≡ true) ↔ ((b ≡ 10) ⊎ ((32 ≤ b) × (b ≤ 126)))
+    text b = or-is (eqb b 10) (leb 32 b && leb b 126) (eqb-is b 10) (and-is (leb 32 b) (leb b 126) (leb-is 32 b) (leb-is b 126))
+
+pub last-open : (file : List ℕ) → (unended file ≡ true) ↔ LastLineOpen file
+last-open file =
+    let last = getD file (length file - 1) 0 in
+    or-is (eqb (length file) 0) (not (eqb last 10)) (λ e. empty file (eqb-true (length file) 0 e), λ e. eq-eqb (length file) 0 (ap length e))
+    (not-is (eqb last 10) (eqb-is last 10))
+  where
+    empty : (l : List ℕ) → length l ≡ 0 → l ≡ []
+    empty [] e = refl
+    empty (x ∷ xs) e = absurd (omega arith)
+
+-- ---- names and literals
+
+letter-is : (b : ℕ) → (isLetter (classOf b) ≡ true) ↔ LetterByte b
+letter-is b = go (leb 97 b && leb b 122) (leb 48 b && leb b 57) (eqb b 95) (and-is (leb 97 b) (leb b 122) (leb-is 97 b) (leb-is b 122))
+  where
+    go : (s t u : Bool) → ((s ≡ true) ↔ LetterByte b) → (isLetter (cond s Letter (cond t Digit (cond u Underscore Other))) ≡ true) ↔ LetterByte b
+    go true t u d = d
+    go false true u d = d
+    go false false true d = d
+    go false false false d = d
+
+byte-is : (b : ℕ) → (inName (classOf b) ≡ true) ↔ NameByte b
+byte-is b =
+    go (leb 97 b && leb b 122) (leb 48 b && leb b 57) (eqb b 95)
+    (or-is (leb 97 b && leb b 122) ((leb 48 b && leb b 57) || eqb b 95) (and-is (leb 97 b) (leb b 122) (leb-is 97 b) (leb-is b 122))
+    (or-is (leb 48 b && leb b 57) (eqb b 95) (and-is (leb 48 b) (leb b 57) (leb-is 48 b) (leb-is b 57)) (eqb-is b 95)))
+  where
+    go : (s t u : Bool) → ((s || (t || u) ≡ true) ↔ NameByte b) → (inName (cond s Letter (cond t Digit (cond u Underscore Other))) ≡ true) ↔ NameByte b
+    go true t u d = d
+    go false true u d = d
+    go false false true d = d
+    go false false false d = d
+
+letter-named : (b : ℕ) → LetterByte b → NameByte b
+letter-named b l = inl l
+
+pub name-is : (n : List ℕ) → (isName n ≡ true) ↔ NameText n
+unfolding isName allBytes
+name-is [] = (λ e. absurd (true≢false (sym e)), λ t. let h = t .nonempty in absurd (omega arith))
+name-is (x ∷ xs) = (there, back)
+  where
+    named : ℕ → Bool
+    named b = inName (classOf b)
+
+    there : leb (length xs) 15 && (isLetter (classOf x) && allBytes named xs) ≡ true → NameText (x ∷ xs)
+    there e =
+        let few = leb-true (length xs) 15 (and-l (leb (length xs) 15) (isLetter (classOf x) && allBytes named xs) e) in
+        let rest = and-r (leb (length xs) 15) (isLetter (classOf x) && allBytes named xs) e in
+        let first : LetterByte x = letter-is x .0 (and-l (isLetter (classOf x)) (allBytes named xs) rest) in
+        let others = and-r (isLetter (classOf x)) (allBytes named xs) rest in
+        record {
+          nonempty = omega arith;
+          short = omega arith;
+          bytes = λ b m. ⊎-elim (λ q. rw q (letter-named x first)) (λ i. byte-is b .0 (each-passes named (allBytes named) refl (λ y ys. refl) i others)) (List·Memᴰ·cases-cons m);
+          begins = first;
+        }
+
+    back : NameText (x ∷ xs) → leb (length xs) 15 && (isLetter (classOf x) && allBytes named xs) ≡ true
+    back t =
+        let h = t .short in
+        and-intro (leb (length xs) 15) (isLetter (classOf x) && allBytes named xs) (le-leb (length xs) 15 (omega arith))
+        (and-intro (isLetter (classOf x)) (allBytes named xs) (letter-is x .1 (t .begins))
+        (all-pass named (allBytes named) refl (λ y ys. refl) xs (λ b m. byte-is b .1 (t .bytes b (List·Memᴰ·tail m)))))
+
+lead-taken : (b : ℕ) (s : List ℕ) → Optional b s (drop (lead b s) s)
+lead-taken b [] = inl refl
+lead-taken b (x ∷ xs) = go (eqb x b) refl
+  where
+    go : (t : Bool) → eqb x b ≡ t → Optional b (x ∷ xs) (drop (cond t 1 0) (x ∷ xs))
+    go true e = inr (ap (λ (y : ℕ). y ∷ xs) (eqb-true x b e))
+    go false e = inl refl
+
+taken-lead : (b : ℕ) (s r : List ℕ) → Optional b s r → lead b r ≡ 0 → drop (lead b s) s ≡ r
+taken-lead b s r (inl e) h = rw (e, h)
+taken-lead b s r (inr e) h = rw (e, eq-eqb b b refl)
+
+name-first : (b : ℕ) (n : List ℕ) → NameText n → (LetterByte b → ⊥) → lead b n ≡ 0
+name-first b [] t h = refl
+name-first b (x ∷ xs) t h = rw (ne-eqb x b (λ e. h (rw e at (t .begins))))
+
+-- a field that reads as a literal reads so in one way
+pub literal-name : (f n : List ℕ) → LiteralText f n → nameOf f ≡ n
+literal-name f n t =
+    let r = t .0 in
+    let plain : lead 126 r ≡ 0 = ⊎-elim (λ e. rw e (name-first 126 n (t .3) (λ l. let h = l .1 in omega arith))) (λ e. rw e) (t .2) in
+    let rest : drop (tildes f) f ≡ r = taken-lead 126 f r (t .1) plain in
+    rw rest (taken-lead 45 r n (t .2) (name-first 45 n (t .3) (λ l. let h = l .0 in omega arith)))
+
+pub literal-is : (f : List ℕ) → (isLiteral f ≡ true) ↔ LiteralText f (nameOf f)
+literal-is f =
+    (λ e. (drop (tildes f) f, lead-taken 126 f, lead-taken 45 (drop (tildes f) f), name-is (nameOf f) .0 e), λ t. name-is (nameOf f) .1 (t .3))
+
+not-literal : (f : List ℕ) → (isLiteral f ≡ false) ↔ ((n : List ℕ) → LiteralText f n → ⊥)
+not-literal f =
+    (λ e n t. clash (literal-is f .1 (subst (LiteralText f) (sym (literal-name f n t)) t)) e, λ h. refuted (λ e. h (nameOf f) (literal-is f .0 e)))
+
+-- ---- declared names
+
+same-is-equal : (a b : List ℕ) → (sameName a b ≡ true) ↔ (a ≡ b)
+unfolding sameName
+same-is-equal a b = (same-equal a b, λ e. sym (same-is true a b (λ _. e, λ _. refl)))
+
+found-is : (k : ℕ) (n : List ℕ) (names : List (List ℕ)) → (isFound (findFrom k n names) ≡ true) ↔ (n isIn names)
+unfolding findFrom
+found-is k n [] = (λ e. absurd (true≢false (sym e)), λ m. absurd (List·Memᴰ·not-nil m))
+found-is k n (m ∷ ms) = go (sameName m n) (same-is-equal m n) (found-is (suc k) n ms)
+  where
+    go : (t : Bool) → ((t ≡ true) ↔ (m ≡ n)) → ((isFound (findFrom (suc k) n ms) ≡ true) ↔ (n isIn ms))
+        → (isFound (cond t (At k) (findFrom (suc k) n ms)) ≡ true) ↔ (n isIn m ∷ ms)
+    go true d rest = (λ e. List·Memᴰ·head (sym (d .0 refl)), λ i. refl)
+    go false d rest = (
+      λ e. List·Memᴰ·tail (rest .0 e),
+      λ i. ⊎-elim (λ e. absurd (true≢false (sym (d .1 (sym e))))) (rest .1) (List·Memᴰ·cases-cons i),
+    )
+
+pub declared-is : (names : List (List ℕ)) (n : List ℕ) → (declared names n ≡ true) ↔ (n isIn names)
+declared-is names n = found-is 0 n names
+
+-- ---- numbers 4 to 8, by the first field
+
+module _ (first : List ℕ) (others : List (List ℕ)) where
+  pub fields-wrong : (wrongFields (wordOf first) others ≡ true) ↔ FieldsWrong (first ∷ others)
+  unfolding wrongFields
+  fields-wrong = (there (wordOf first) (first-is first), back)
+    where
+      n : ℕ
+      n = length others
+
+      by-name : (not (eqb n 1) ≡ true) ↔ (suc n ≡ 2 → ⊥)
+      by-name = not-is (eqb n 1) (λ e. ap suc (eqb-true n 1 e), λ e. eq-eqb n 1 (omega arith))
+
+      by-rule : (not (leb 1 n && leb n 17) ≡ true) ↔ ((2 ≤ suc n) × (suc n ≤ 18) → ⊥)
+      by-rule =
+          not-is (leb 1 n && leb n 17)
+          (and-is (leb 1 n) (leb n 17) (λ e. suc-le-suc (leb-true 1 n e), λ h. le-leb 1 n (omega arith)) (λ e. suc-le-suc (leb-true n 17 e), λ h. le-leb n 17 (omega arith)))
+
+      by-end : (not (eqb n 0) ≡ true) ↔ (suc n ≡ 1 → ⊥)
+      by-end = not-is (eqb n 0) (λ e. ap suc (eqb-true n 0 e), λ e. eq-eqb n 0 (omega arith))
+
+      there : (w : Word) → IsWord w first → wrongFields w others ≡ true → FieldsWrong (first ∷ others)
+      there Name s e = inr (inl (s, by-name .0 e))
+      there RuleWord s e = inr (inr (inl (s, by-rule .0 e)))
+      there End s e = inr (inr (inr (s, by-end .0 e)))
+      there Unknown s e = inl s
+
+      back : FieldsWrong (first ∷ others) → wrongFields (wordOf first) others ≡ true
+      back (inl s) = rw (word-is Unknown first s)
+      back (inr (inl p)) = rw (word-is Name first (p .0)) (by-name .1 (p .1))
+      back (inr (inr (inl p))) = rw (word-is RuleWord first (p .0)) (by-rule .1 (p .1))
+      back (inr (inr (inr p))) = rw (word-is End first (p .0)) (by-end .1 (p .1))
+
+  -- a test that only lines of names and rules can meet
+  named-or-ruled : (test : Word → Bool) {A B : Type 0} → test End ≡ false → test Unknown ≡ false → ((test Name ≡ true) ↔ A)
+      → (first ≡ ruleWord → (test RuleWord ≡ true) ↔ B) → (test (wordOf first) ≡ true) ↔ (((first ≡ nameWord) × A) ⊎ ((first ≡ ruleWord) × B))
+  named-or-ruled test {A} {B} end unknown name rule = (there (wordOf first) (first-is first), back)
+    where
+      there : (w : Word) → IsWord w first → test w ≡ true → ((first ≡ nameWord) × A) ⊎ ((first ≡ ruleWord) × B)
+      there Name s e = inl (s, name .0 e)
+      there RuleWord s e = inr (s, rule s .0 e)
+      there End s e = absurd (clash e end)
+      there Unknown s e = absurd (clash e unknown)
+
+      back : ((first ≡ nameWord) × A) ⊎ ((first ≡ ruleWord) × B) → test (wordOf first) ≡ true
+      back (inl p) = rw (word-is Name first (p .0)) (name .1 (p .1))
+      back (inr p) = rw (word-is RuleWord first (p .0)) (rule (p .0) .1 (p .1))
+
+  some-field : (f : List ℕ → Bool) (P : List ℕ → Type 0) → ((x : List ℕ) → x isIn others → (f x ≡ false) ↔ P x)
+      → (not (allFields f others) ≡ true) ↔ SomeField (first ∷ others) P
+  unfolding allFields
+  some-field f P d = fails-where f (allFields f) refl (λ x xs. refl) others P d
+
+  pub form-wrong : (malformed (wordOf first) others ≡ true) ↔ FormWrong (first ∷ others)
+  unfolding malformed
+  form-wrong =
+      named-or-ruled (λ w. malformed w others) refl refl (some-field isName (λ n. NameText n → ⊥) (λ n m. fails (isName n) (name-is n)))
+      (λ s. or-is (headTilde others) (not (allFields isLiteral others)) (tilde others)
+      (some-field isLiteral (λ f. (n : List ℕ) → LiteralText f n → ⊥) (λ f m. not-literal f)))
+    where
+      tilde-is : (h : List ℕ) → (hasTilde h ≡ true) ↔ ((rest : List ℕ) × (h ≡ 126 ∷ rest))
+      tilde-is [] = (λ e. absurd (true≢false (sym e)), λ r. let bad = ap length (r .1) in absurd (omega arith))
+      tilde-is (x ∷ xs) = go (eqb x 126) (eqb-is x 126)
+        where
+          go : (t : Bool) → ((t ≡ true) ↔ (x ≡ 126)) → (eqb (cond t 1 0) 1 ≡ true) ↔ ((rest : List ℕ) × (x ∷ xs ≡ 126 ∷ rest))
+          go true d = (λ e. (xs, ap (λ (y : ℕ). y ∷ xs) (d .0 refl)), λ r. refl)
+          go false d = (λ e. absurd (true≢false (sym e)), λ r. absurd (true≢false (sym (d .1 (ap (λ (l : List ℕ). getD l 0 0) (r .1))))))
+
+      tilde : (fs : List (List ℕ)) → (headTilde fs ≡ true) ↔ ((rest : List ℕ) × (getD (first ∷ fs) 1 [] ≡ 126 ∷ rest))
+      tilde [] = (λ e. absurd (true≢false (sym e)), λ r. let bad = ap length (r .1) in absurd (omega arith))
+      tilde (h ∷ body) = tilde-is h
+
+  pub name-taken : (d : Content) → (declaredBefore d (wordOf first) others ≡ true) ↔ NameTaken d (first ∷ others)
+  unfolding declaredBefore
+  name-taken d = (λ e. ⊎-elim (λ p. p) (λ p. absurd (p .1)) (one .0 e), λ p. one .1 (inl p))
+    where
+      one : (declaredBefore d (wordOf first) others ≡ true) ↔ (NameTaken d (first ∷ others) ⊎ ((first ≡ ruleWord) × ⊥))
+      one =
+          named-or-ruled (λ w. declaredBefore d w others) refl refl (some-field (λ n. not (declared (d .names) n)) (λ n. n isIn d .names) (λ n m. before n))
+          (λ s. (λ e. true≢false (sym e), λ z. absurd z))
+        where
+          before : (n : List ℕ) → (not (declared (d .names) n) ≡ false) ↔ (n isIn d .names)
+          before n =
+              (λ e. declared-is (d .names) n .0 (not-false (declared (d .names) n) e), λ m. ap not (declared-is (d .names) n .1 m))
+
+  pub name-missing : (d : Content) → malformed (wordOf first) others ≡ false → (usesUndeclared d (wordOf first) others ≡ true) ↔ NameMissing d (first ∷ others)
+  unfolding usesUndeclared malformed
+  name-missing d formed = (λ e. ⊎-elim (λ p. absurd (p .1)) (λ p. p) (one .0 e), λ p. one .1 (inr p))
+    where
+      literals : first ≡ ruleWord → allFields isLiteral others ≡ true
+      literals s = not-false (allFields isLiteral others) (neither (headTilde others) (not (allFields isLiteral others)) (rw (word-is RuleWord first s) at formed) .1)
+
+      missing : (f : List ℕ) → isLiteral f ≡ true → (declared (d .names) (nameOf f) ≡ false) ↔ ((n : List ℕ) × LiteralText f n × (n isIn d .names → ⊥))
+      missing f l =
+          let failed = fails (declared (d .names) (nameOf f)) (declared-is (d .names) (nameOf f)) in
+          (λ e. (nameOf f, literal-is f .0 l, failed .0 e), λ r. failed .1 (rw (literal-name f (r .0) (r .1)) (r .2)))
+
+      one : (usesUndeclared d (wordOf first) others ≡ true) ↔ (((first ≡ nameWord) × ⊥) ⊎ NameMissing d (first ∷ others))
+      one =
+          named-or-ruled (λ w. usesUndeclared d w others) refl refl (λ e. true≢false (sym e), λ z. absurd z)
+          (λ s. some-field (λ f. declared (d .names) (nameOf f)) (λ f. (n : List ℕ) × LiteralText f n × (n isIn d .names → ⊥))
+          (λ f m. missing f (each-field isLiteral m (literals s))))
+
+  pub table-full : (d : Content) → (beyondTable d (wordOf first) others ≡ true) ↔ TableFull d (first ∷ others)
+  unfolding beyondTable
+  table-full d =
+      let used = bodyLiterals (d .rules) in
+      named-or-ruled (λ w. beyondTable d w others) refl refl (full maxNames (length (d .names)))
+      (λ s. or-is (leb maxRules (length (d .rules))) (ltb maxEntries (used + (length others - 1))) (full maxRules (length (d .rules)))
+      (λ e. let h = ltb-true maxEntries (used + (length others - 1)) e in omega arith, λ h. lt-ltb maxEntries (used + (length others - 1)) (omega arith)))
+    where
+      full : (most n : ℕ) → (leb most n ≡ true) ↔ (most < n + 1)
+      full most n = (λ e. let h = leb-true most n e in omega arith, λ h. le-leb most n (omega arith))
