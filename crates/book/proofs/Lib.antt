@@ -1,2 +1,3 @@
 -- The laws of a book's tables.
 pub mod Rows
+pub mod Parts

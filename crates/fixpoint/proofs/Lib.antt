@@ -1,0 +1,3 @@
+-- The laws of passes and of the model.
+pub mod Pass
+pub mod Tables
