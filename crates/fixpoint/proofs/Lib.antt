@@ -1,3 +1,6 @@
 -- The laws of passes and of the model.
 pub mod Pass
 pub mod Tables
+pub mod Room
+pub mod Kept
+pub mod Growth

@@ -117,3 +117,108 @@ fn add_heads<'a>(
     }
     y
 }
+
+// The facts that are not passed over.
+fn open_facts(facts: LitSet, asks: bool, s: LitSet) -> LitSet
+    ensures { λ r. ⌜ setOf (r .words) ≡ setOf (facts .words) ∖ shut asks (setOf (s .words)) ⌝ }
+{
+    let mut x = facts;
+    let mut l: usize = 0;
+    while l < litset::CAPACITY {
+        if is_shut(asks, s, l) {
+            x = litset::remove(x, l);
+        }
+        l += 1;
+    }
+    x
+}
+
+// Γ(s), or Γs(s) where the complement is asked for, of the first rules in the tables and the facts: passes until one adds nothing.
+fn gamma<'a>(
+    heads: &'a [u16],
+    starts: &'a [u16],
+    entries: &'a [u16],
+    count: usize,
+    asks: bool,
+    facts: LitSet,
+    s: LitSet,
+) -> LitSet
+    requires { ⌜ (count ≤ length (now heads)) × (count < length (now starts)) ⌝ }
+    ensures { λ r. ⌜ setOf (r .words) ≡ Γ (version asks (program (rulesIn (now (heads .entry)) (now (starts .entry)) (now (entries .entry)) count) (setOf (facts .words)))) (setOf (s .words)) ⌝ }
+{
+    let mut x = open_facts(facts, asks, s);
+    loop {
+        let y = add_heads(heads, starts, entries, count, asks, s, x);
+        if litset::equal(x, y) {
+            return y;
+        }
+        x = y;
+    }
+}
+
+// M and N of the first rules in the tables and the facts: I(k) until ΓΓs gives the same set.
+fn settle<'a>(
+    heads: &'a [u16],
+    starts: &'a [u16],
+    entries: &'a [u16],
+    count: usize,
+    facts: LitSet,
+) -> Halves
+    requires { ⌜ (count ≤ length (now heads)) × (count < length (now starts)) ⌝ }
+    ensures { λ r. ⌜ HalvesOf (program (rulesIn (now (heads .entry)) (now (starts .entry)) (now (entries .entry)) count) (setOf (facts .words))) r ⌝ }
+{
+    let mut x = litset::empty();
+    loop {
+        let n = gamma(heads, starts, entries, count, true, facts, x);
+        let y = gamma(heads, starts, entries, count, false, facts, n);
+        if litset::equal(x, y) {
+            return Halves {
+                truths: y,
+                nonfalse: n,
+            };
+        }
+        x = y;
+    }
+}
+
+fn first_clash(m: LitSet) -> Clash
+    ensures { λ r. ⌜ ClashOf (setOf (m .words)) r ⌝ }
+{
+    let mut n: usize = 0;
+    while n < litset::CAPACITY / 2 {
+        if litset::contains(m, 2 * n) & litset::contains(m, 2 * n + 1) {
+            return Clash::Name(n);
+        }
+        n += 1;
+    }
+    Clash::None
+}
+
+// The model of a book and the facts put in.
+pub fn model_of(book: Book, facts: LitSet) -> Model
+    ensures { λ r. ⌜ ModelOf (programOf book (setOf (facts .words))) r ⌝ }
+{
+    let count = book::rule_count(book);
+    let h = settle(&book.heads, &book.starts, &book.entries, count, facts);
+    let truths = h.truths;
+    let nonfalse = h.nonfalse;
+    let clash = first_clash(truths);
+    Model {
+        truths: truths,
+        nonfalse: nonfalse,
+        clash: clash,
+    }
+}
+
+// The verdict of a literal in a model that has no clash.
+pub fn verdict_of(m: Model, l: usize) -> Verdict
+    ensures { λ r. ⌜ verdictIs r ≡ verdictIn (setOf (m .truths .words)) (setOf (m .nonfalse .words)) l ⌝ }
+{
+    if litset::contains(m.truths, l) {
+        Verdict::True
+    } else if litset::contains(m.nonfalse, l) {
+        Verdict::Undefined
+    } else {
+        Verdict::False
+    }
+}
