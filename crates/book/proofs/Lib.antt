@@ -2,3 +2,4 @@
 pub mod Rows
 pub mod Parts
 pub mod Counts
+pub mod Heads

@@ -1,6 +1,6 @@
 -- Γ and Γs by passes. From the facts on, every set that the passes reach lies in Γ; where a pass adds nothing the set is closed, so Γ lies in it.
 -- M by rounds of the two: each set reached is an I(k), and the first that ΓΓs keeps is M.
-use mathlib.Core.Path.{_≡_, refl, sym, _∙_, ap}
+use mathlib.Core.Path.{_≡_, sym, _∙_, ap}
 use mathlib.Core.Logic.{_⊎_, inl, inr}
 use mathlib.Core.Bool.{Bool, true, false, not, _&&_, _||_}
 use mathlib.Core.List.{List}
@@ -9,7 +9,7 @@ use borrow.Author.Tests.{not-true}
 use Rattle.wfsx.specs.Sets.{Set, _∈_, _∉_, _⊆_, ∅, _∖_}
 use Rattle.wfsx.specs.Program.{compl, Rule, Program}
 use Rattle.wfsx.specs.Model.{holds, supported, Γ, Γs, I, M, N}
-use Rattle.wfsx.proofs.Sets.{decided, not-intro, and-l, and-r, and-intro, or-elim, or-l, or-r, ⊆-antisym}
+use Rattle.wfsx.proofs.Sets.{not-intro, and-l, and-r, and-intro, or-elim, or-l, or-r, ⊆-antisym}
 use Rattle.wfsx.proofs.Supported.{supported-seminormal}
 use Rattle.wfsx.proofs.Facts.{supported-facts}
 use Rattle.wfsx.proofs.Operators.{Γ-fixed, Γ-inside, I-grows, I⊆M, M-least, N-is}

@@ -1,14 +1,13 @@
 -- The loop that takes the members of B out of F, number by number.
 use mathlib.Core.Path.{_≡_, refl, sym, _∙_, ap, fun-ext}
-use mathlib.Core.Logic.{_⊎_, inl, inr}
-use mathlib.Core.Bool.{Bool, true, false, not, _&&_, and-true}
+use mathlib.Core.Bool.{Bool, false, not, _&&_, and-true}
 use Prim.Native.Nat.{ℕ, _+_, _≤_, _<_}
 use native.Mathlib.Decide.{decLt, ℕ-discrete}
 use native.Mathlib.Omega.{arith}
-use lib.Dec.{eqb, ltb}
-use borrow.Author.Tests.{eq-eqb, ne-eqb, lt-ltb, le-ltb}
+use lib.Dec.{eqb}
+use borrow.Author.Tests.{eq-eqb, ne-eqb}
 use Rattle.wfsx.specs.Sets.{Set, _∈_, _∉_, _∖_}
-use Rattle.wfsx.proofs.Sets.{decided, contra, refuted}
+use Rattle.wfsx.proofs.Sets.{refuted}
 use Rattle.litset.specs.Words.{without}
 
 module _ (F B : Set) where

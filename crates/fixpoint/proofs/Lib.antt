@@ -4,3 +4,4 @@ pub mod Tables
 pub mod Room
 pub mod Kept
 pub mod Growth
+pub mod Published

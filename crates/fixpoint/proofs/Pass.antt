@@ -9,7 +9,7 @@ use borrow.Author.Tests.{eqb-true, not-true}
 use Rattle.wfsx.specs.Sets.{Set, _∈_, _∉_, _⊆_, add}
 use Rattle.wfsx.specs.Program.{Rule}
 use Rattle.wfsx.specs.Model.{holds, every, supported}
-use Rattle.wfsx.proofs.Sets.{clash, decided, not-intro, and-l, and-r, and-intro, or-elim, or-r, ⊆-antisym, add-has, ⊆-add}
+use Rattle.wfsx.proofs.Sets.{clash, decided, and-l, and-r, or-elim, or-r, ⊆-antisym, add-has, ⊆-add}
 use Rattle.wfsx.proofs.Supported.{supported-map, holds-map, supported-intro}
 use Rattle.fixpoint.specs.Pass.{fire, pass}
 

@@ -1,7 +1,7 @@
 -- A pass over the tables of a book: the laws of its two loops.
 use mathlib.Core.Path.{_≡_, refl, sym, _∙_, ap}
-use mathlib.Core.Bool.{Bool, true, false, not, _&&_, and-false}
-use mathlib.Core.List.{List, [], _∷_, map}
+use mathlib.Core.Bool.{true, false, not, _&&_, and-false}
+use mathlib.Core.List.{List, _∷_, map}
 use Prim.Native.Nat.{ℕ, _+_, _-_, _/_, _%_, _≤_, _<_, min}
 use native.Mathlib.Nat.{mod-lt, zero-lt-suc}
 use native.Mathlib.Omega.{arith}
@@ -11,7 +11,7 @@ use Rattle.wfsx.specs.Sets.{Set, _∈_, _∉_, add}
 use Rattle.wfsx.specs.Program.{Rule}
 use Rattle.wfsx.specs.Model.{holds, every}
 use Rattle.litset.specs.Words.{capacity, with}
-use Rattle.book.specs.Book.{rows, literalOf, entryOf, bodyAt, ruleAt, rulesIn}
+use Rattle.book.specs.Book.{rows, entryOf, bodyAt, ruleAt, rulesIn}
 use Rattle.book.proofs.Rows.{rows-step, rows-end}
 use Rattle.book.proofs.Parts.{part-step, part-end}
 use Rattle.fixpoint.specs.Pass.{pass}

@@ -1,7 +1,6 @@
 -- One pass over the rules, and the program that Γ and Γs run over (document 01, "From rules to a model").
 use mathlib.Core.Bool.{Bool, not, cond, _&&_}
 use mathlib.Core.List.{List, [], _∷_}
-use Prim.Native.Nat.{ℕ}
 use Rattle.wfsx.specs.Sets.{Set, add, members}
 use Rattle.wfsx.specs.Program.{compl, Rule, Program, seminormal, withFacts}
 use Rattle.wfsx.specs.Model.{holds, every}

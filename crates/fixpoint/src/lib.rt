@@ -3,14 +3,13 @@
 use book::Book;
 use litset::LitSet;
 ghost use mathlib.Core.Path.{_≡_};
-ghost use mathlib.Core.Bool.{cond};
 ghost use Prim.Native.Nat.{_<_, _≤_, min};
 ghost use lib.ListN.{length};
 ghost use Rattle.wfsx.specs.Sets.{_∖_};
 ghost use Rattle.wfsx.specs.Program.{compl};
 ghost use Rattle.wfsx.specs.Model.{holds, Γ};
-ghost use Rattle.litset.specs.Words.{capacity, setOf};
-ghost use Rattle.book.specs.Book.{literalOf, entryOf, rulesIn, programOf};
+ghost use Rattle.litset.specs.Words.{setOf};
+ghost use Rattle.book.specs.Book.{entryOf, rulesIn, programOf};
 ghost use Rattle.fixpoint.specs.Pass.{shut, pass, program, version};
 ghost use Rattle.fixpoint.specs.Result.{ClashOf, HalvesOf, ModelOf, verdictIs, verdictIn};
 
