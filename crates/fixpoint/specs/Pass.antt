@@ -1,6 +1,8 @@
 -- One pass over the rules, and the program that Γ and Γs run over (document 01, "From rules to a model").
 use mathlib.Core.Bool.{Bool, not, cond, _&&_}
 use mathlib.Core.List.{List, [], _∷_}
+use Prim.Native.Nat.{ℕ, _≤_, _<_}
+use lib.ListN.{length}
 use Rattle.wfsx.specs.Sets.{Set, add, members}
 use Rattle.wfsx.specs.Program.{compl, Rule, Program, seminormal, withFacts}
 use Rattle.wfsx.specs.Model.{holds, every}
@@ -26,3 +28,7 @@ pass (r ∷ P) B S X = pass P B S (fire B S r X)
 -- the program of some rules and the facts in a set
 abbrev pub program : List Rule → Set → Program
 program rules facts = withFacts rules (members capacity facts)
+
+-- the tables of heads and starts have that many rules
+abbrev pub InTables : List ℕ → List ℕ → ℕ → Type 0
+InTables heads starts count = (count ≤ length heads) × (count < length starts)

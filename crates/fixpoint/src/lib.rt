@@ -3,14 +3,13 @@
 use book::Book;
 use litset::LitSet;
 ghost use mathlib.Core.Path.{_≡_};
-ghost use Prim.Native.Nat.{_<_, _≤_, min};
-ghost use lib.ListN.{length};
+ghost use Prim.Native.Nat.{min};
 ghost use Rattle.wfsx.specs.Sets.{_∖_};
 ghost use Rattle.wfsx.specs.Program.{compl};
 ghost use Rattle.wfsx.specs.Model.{holds, Γ};
 ghost use Rattle.litset.specs.Words.{setOf};
 ghost use Rattle.book.specs.Book.{entryOf, rulesIn, programOf};
-ghost use Rattle.fixpoint.specs.Pass.{shut, pass, program, version};
+ghost use Rattle.fixpoint.specs.Pass.{InTables, shut, pass, program, version};
 ghost use Rattle.fixpoint.specs.Result.{ClashOf, HalvesOf, ModelOf, verdictIs, verdictIn};
 
 // The lowest-numbered name that has both literals in a set, if any.
@@ -91,8 +90,10 @@ fn add_heads<'a>(
     s: LitSet,
     x: LitSet,
 ) -> LitSet
-    requires { ⌜ (count ≤ length (now heads)) × (count < length (now starts)) ⌝ }
-    ensures { λ r. ⌜ setOf (r .words) ≡ pass (rulesIn (now (heads .entry)) (now (starts .entry)) (now (entries .entry)) count) (shut asks (setOf (s .words))) (setOf (s .words)) (setOf (x .words)) ⌝ }
+    requires { ⌜ InTables (now heads) (now starts) count ⌝ }
+    ensures { λ r. ⌜ setOf (r .words)
+        ≡ pass (rulesIn (now (heads .entry)) (now (starts .entry)) (now (entries .entry)) count)
+        (shut asks (setOf (s .words))) (setOf (s .words)) (setOf (x .words)) ⌝ }
 {
     let mut y = x;
     let mut r: usize = 0;
@@ -142,8 +143,10 @@ fn gamma<'a>(
     facts: LitSet,
     s: LitSet,
 ) -> LitSet
-    requires { ⌜ (count ≤ length (now heads)) × (count < length (now starts)) ⌝ }
-    ensures { λ r. ⌜ setOf (r .words) ≡ Γ (version asks (program (rulesIn (now (heads .entry)) (now (starts .entry)) (now (entries .entry)) count) (setOf (facts .words)))) (setOf (s .words)) ⌝ }
+    requires { ⌜ InTables (now heads) (now starts) count ⌝ }
+    ensures { λ r. ⌜ setOf (r .words)
+        ≡ Γ (version asks (program (rulesIn (now (heads .entry)) (now (starts .entry)) (now (entries .entry)) count)
+        (setOf (facts .words)))) (setOf (s .words)) ⌝ }
 {
     let mut x = open_facts(facts, asks, s);
     loop {
@@ -163,20 +166,21 @@ fn settle<'a>(
     count: usize,
     facts: LitSet,
 ) -> Halves
-    requires { ⌜ (count ≤ length (now heads)) × (count < length (now starts)) ⌝ }
-    ensures { λ r. ⌜ HalvesOf (program (rulesIn (now (heads .entry)) (now (starts .entry)) (now (entries .entry)) count) (setOf (facts .words))) r ⌝ }
+    requires { ⌜ InTables (now heads) (now starts) count ⌝ }
+    ensures { λ r. ⌜ HalvesOf (program (rulesIn (now (heads .entry)) (now (starts .entry)) (now (entries .entry)) count)
+        (setOf (facts .words))) r ⌝ }
 {
     let mut x = litset::empty();
     loop {
         let n = gamma(heads, starts, entries, count, true, facts, x);
-        let y = gamma(heads, starts, entries, count, false, facts, n);
-        if litset::equal(x, y) {
+        let m = gamma(heads, starts, entries, count, false, facts, n);
+        if litset::equal(x, m) {
             return Halves {
-                truths: y,
+                truths: m,
                 nonfalse: n,
             };
         }
-        x = y;
+        x = m;
     }
 }
 

@@ -46,7 +46,9 @@ rules-less : tie.Need-rules-less Inv-loop μ-loop Inv-rules μ-rules
 rules-less c = search needs
 
 rules-again : tie.Need-rules-again Inv-loop μ-loop Inv-rules μ-rules
-rules-again c = going-shut (c .before .before .before .before .before .rules .inv) (c .before .before .before .before .rules-test .taken) (c .before .before .wide .ensures) (sym (c .before .is-shut .ensures) ∙ c .if1 .taken)
+rules-again c =
+    let turn = c .before .before .before .before in
+    going-shut (turn .before .rules .inv) (turn .rules-test .taken) (c .before .before .wide .ensures) (sym (c .before .is-shut .ensures) ∙ c .if1 .taken)
 
 mul-wide-2 : tie.Need-mul-wide-2 Inv-loop μ-loop Inv-rules μ-rules
 mul-wide-2 c = search needs
@@ -93,10 +95,13 @@ rules-less-2 c = search needs
 
 rules-again-2 : tie.Need-rules-again-2 Inv-loop μ-loop Inv-rules μ-rules
 rules-again-2 c =
-    rw (c .before .before .before .before .loop .inv .0)
-    (going-fails (c .before .before .before .before .before .before .before .before .before .before .before .before .before .before .before .rules .inv) (c .before .before .before .before .before .before .before .before .before .before .before .before .before .before .rules-test .taken)
-    (passed-fails (c .before .before .before .before .loop .inv .1) (omega (arith, c .before .before .before .before .before .least .ensures, c .before .before .before .before .before .before .wide3 .ensures), omega (arith, c .before .before .before .before .before .least .ensures))
-    (sym (c .before .entry-holds .ensures) ∙ not-true _ (c .if2 .taken))))
+    let inner = c .before .before .before .before in
+    let turn = inner .before .before .before .before .before .before .before .before .before .before in
+    let to = inner .before .least .ensures in
+    let next = inner .before .before .wide3 .ensures in
+    let here = (sym (c .before .entry-holds .ensures) ∙ not-true (c .before .entry-holds .result) (c .if2 .taken)) in
+    rw (inner .loop .inv .0)
+    (going-fails (turn .before .rules .inv) (turn .rules-test .taken) (passed-fails (inner .loop .inv .1) (omega arith, omega arith) here))
 
 add-j : tie.Need-add-j Inv-loop μ-loop Inv-rules μ-rules
 add-j c = search needs
@@ -105,11 +110,12 @@ loop-less : tie.Need-loop-less Inv-loop μ-loop Inv-rules μ-rules
 loop-less c = search needs
 
 loop-again : tie.Need-loop-again Inv-loop μ-loop Inv-rules μ-rules
-loop-again c = (
-  c .before .before .before .before .loop .inv .0,
-  passed-more (c .before .before .before .before .loop .inv .1) (omega (arith, c .before .before .before .before .before .least .ensures, c .before .before .before .before .before .before .wide3 .ensures), omega (arith, c .before .before .before .before .before .least .ensures))
-      (sym (c .before .entry-holds .ensures) ∙ not-false _ (c .if2 .left)),
-)
+loop-again c =
+    let inner = c .before .before .before .before in
+    let to = inner .before .least .ensures in
+    let next = inner .before .before .wide3 .ensures in
+    let here = (sym (c .before .entry-holds .ensures) ∙ not-false (c .before .entry-holds .result) (c .if2 .left)) in
+    (inner .loop .inv .0, passed-more (inner .loop .inv .1) (omega arith, omega arith) here)
 
 insert-requires : tie.Need-insert-requires Inv-loop μ-loop Inv-rules μ-rules
 insert-requires c κs = search needs
@@ -122,9 +128,14 @@ rules-less-3 c = search needs
 
 rules-again-3 : tie.Need-rules-again-3 Inv-loop μ-loop Inv-rules μ-rules
 rules-again-3 c =
-    rw (c .before .before .loop .inv .0)
-    (going-fires (c .before .before .before .before .before .before .before .before .before .before .before .before .before .rules .inv) (c .before .before .before .before .before .before .before .before .before .before .before .before .rules-test .taken) (c .before .before .before .before .before .before .before .before .before .before .wide .ensures) (sym (c .before .before .before .before .before .before .before .before .before .is-shut .ensures) ∙ c .before .before .before .before .before .before .before .before .if1 .left)
-    (passed-all (c .before .before .loop .inv .1) (omega (arith, c .before .before .before .least .ensures, c .before .before .before .before .wide3 .ensures))) (c .insert .ensures))
+    let inner = c .before .before in
+    let tested = inner .before .before .before .before .before .before in
+    let turn = tested .before .before .before .before in
+    let to = inner .before .least .ensures in
+    let next = inner .before .before .wide3 .ensures in
+    let free = (sym (tested .before .is-shut .ensures) ∙ tested .if1 .left) in
+    let all = passed-all (inner .loop .inv .1) (omega arith) in
+    rw (inner .loop .inv .0) (going-fires (turn .before .rules .inv) (turn .rules-test .taken) (tested .before .before .wide .ensures) free all (c .insert .ensures))
 
 returns : tie.Need-returns Inv-loop μ-loop Inv-rules μ-rules
 returns c = going-end (c .before .rules .inv) (c .rules-test .left)

@@ -8,7 +8,7 @@ use lib.ListN.{length}
 use Rattle.wfsx.specs.Model.{Both}
 use Rattle.wfsx.proofs.Sets.{clash, and-l, and-r, and-intro}
 use Rattle.litset.specs.Words.{nWords, capacity, setOf}
-use Rattle.litset.proofs.Words.{member-below}
+use Rattle.litset.proofs.Words.{member-room}
 use Rattle.fixpoint.proofs.first_clash.Statement.{statement}
 use Rattle.fixpoint.proofs.first_clash.Tie as tie
 
@@ -52,13 +52,15 @@ loop-less c = search needs
 
 loop-again : tie.Need-loop-again Inv-loop μ-loop
 loop-again c =
-    (omega arith, below-more _ _ (c .before .before .before .before .loop .inv .1) (λ b. clash (and-intro _ _ (c .before .before .contains .ensures ∙ b .0) (c .before .contains2 .ensures ∙ b .1)) (c .if1 .left)))
+    let even = c .before .before .contains .ensures in
+    let odd = c .before .contains2 .ensures in
+    (omega arith, below-more _ _ (c .before .before .before .before .loop .inv .1) (λ b. clash (and-intro _ _ (even ∙ b .0) (odd ∙ b .1)) (c .if1 .left)))
 
 returns-2 : tie.Need-returns-2 Inv-loop μ-loop
 returns-2 c =
     let ws = c .before .before .args .m .words in
     let size : length ws ≡ nWords = search needs in
-    λ n b. c .before .loop .inv .1 n (omega (arith, member-below ws (2 * n) (b .0))) b
+    λ n b. c .before .loop .inv .1 n (omega (arith, member-room ws size (2 * n) (b .0))) b
 
 pub first-clash-spec : {M : Type 1} → statement M
 first-clash-spec =

@@ -1,12 +1,11 @@
 -- `gamma`: the loop's invariant is that the set lies between the open facts and every closed set that has them; a pass that adds something leaves
 -- fewer literals outside, and one that adds nothing leaves the set closed.
 use borrow.Author.Needs.{needs}
-use native.Mathlib.Omega.{arith}
 use mathlib.Core.Path.{_≡_, sym, _∙_}
 use mathlib.Core.Bool.{true≢false}
 use lib.ListN.{length}
 use Rattle.litset.specs.Words.{nWords, setOf}
-use Rattle.litset.proofs.Words.{member-below}
+use Rattle.litset.proofs.Words.{member-room}
 use Rattle.book.specs.Book.{rulesIn}
 use Rattle.fixpoint.specs.Pass.{shut}
 use Rattle.fixpoint.proofs.Room.{room}
@@ -38,18 +37,19 @@ facts-size c = search needs
 
 returns : tie.Need-returns Inv-loop μ-loop
 returns c =
-    let facts = c .before .before .before .before .before .before .before .before .args .facts .words in
-    let size : length facts ≡ nWords = facts-size (c .before .before .before .before .before .before .before .before) in
+    let turn = c .before .before .before in
+    let start = turn .before .before .before .before .before in
+    let facts = start .args .facts .words in
+    let below = member-room facts (facts-size start) in
     let same = c .before .equal .ensures .0 (c .if1 .taken) in
-    sym same
-    ∙ growing-end _ (setOf facts) (λ A a. omega (arith, member-below facts A a)) _ _ (c .before .before .before .before .open-facts .ensures) (c .before .before .before .loop .inv)
-    (growing-still _ _ _ _ (c .before .before .add-heads .ensures) same)
+    let closed = growing-still _ _ _ _ (c .before .before .add-heads .ensures) same in
+    sym same ∙ growing-end _ (setOf facts) below _ _ (turn .before .open-facts .ensures) (turn .loop .inv) closed
 
 loop-less : tie.Need-loop-less Inv-loop μ-loop
 loop-less c =
     let ws = c .before .before .add-heads .result .words in
     let size : length ws ≡ nWords = search needs in
-    growing-falls _ _ _ (setOf (c .before .before .before .loop .x .words)) (c .before .before .add-heads .ensures) (λ A a. omega (arith, member-below ws A a))
+    growing-falls _ _ _ (setOf (c .before .before .before .loop .x .words)) (c .before .before .add-heads .ensures) (member-room ws size)
     (λ same. true≢false (sym (c .before .equal .ensures .1 same) ∙ c .if1 .left))
 
 loop-again : tie.Need-loop-again Inv-loop μ-loop

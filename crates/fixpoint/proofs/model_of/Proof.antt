@@ -35,8 +35,10 @@ first-clash-requires c κs = search needs
 returns : tie.Need-returns
 unfolding programOf
 returns c =
-    let h : HalvesOf (programOf (c .before .before .before .before .before .before .before .before .before .before .before .before .args .t1) (setOf (c .before .before .before .before .before .before .before .before .before .before .before .before .args .facts .words))) (c .before .before .before .settle .result) =
-    rw (c .before .before .before .before .before .before .before .before .before .before .before .rule-count .ensures) at (c .before .before .before .settle .ensures) in
+    let settled = c .before .before .before in
+    let counted = settled .before .before .before .before .before .before .before .before in
+    let args = counted .before .args in
+    let h : HalvesOf (programOf (args .t1) (setOf (args .facts .words))) (settled .settle .result) = rw (counted .rule-count .ensures) at (settled .settle .ensures) in
     record { truths = h .truths; nonfalse = h .nonfalse; clash = rw (h .truths) at (c .first-clash .ensures) }
 
 pub model-of-spec : {M : Type 1} → statement M

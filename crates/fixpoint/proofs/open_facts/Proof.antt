@@ -6,7 +6,7 @@ use mathlib.Core.Logic.{⊎-elim}
 use Prim.Native.Nat.{_-_, _≤_}
 use lib.ListN.{length}
 use Rattle.litset.specs.Words.{nWords, capacity, setOf}
-use Rattle.litset.proofs.Words.{member-below}
+use Rattle.litset.proofs.Words.{member-room}
 use Rattle.fixpoint.specs.Pass.{shut}
 use Rattle.fixpoint.proofs.Kept.{Kept, kept-none, kept-open, kept-shut, kept-all}
 use Rattle.fixpoint.proofs.open_facts.Statement.{statement}
@@ -43,7 +43,7 @@ returns : tie.Need-returns Inv-loop μ-loop
 returns c =
     let ws = c .before .before .args .facts .words in
     let size : length ws ≡ nWords = search needs in
-    kept-all _ _ (c .before .loop .inv .1) (λ A a. omega (arith, member-below ws A a))
+    kept-all _ _ (c .before .loop .inv .1) (λ A a. omega (arith, member-room ws size A a))
 
 pub open-facts-spec : {M : Type 1} → statement M
 open-facts-spec =

@@ -1,13 +1,12 @@
 -- `settle`: the loop's invariant is that the set is one of the I(k); a round that adds something leaves fewer literals outside, and the set that
 -- ΓΓs keeps is M.
 use borrow.Author.Needs.{needs}
-use native.Mathlib.Omega.{arith}
 use mathlib.Core.Path.{_≡_, sym, _∙_}
 use mathlib.Core.Bool.{true≢false}
 use lib.ListN.{length}
 use Rattle.wfsx.specs.Model.{Γs}
 use Rattle.litset.specs.Words.{nWords, setOf}
-use Rattle.litset.proofs.Words.{member-below}
+use Rattle.litset.proofs.Words.{member-room}
 use Rattle.book.specs.Book.{rulesIn}
 use Rattle.fixpoint.specs.Pass.{program}
 use Rattle.fixpoint.proofs.Room.{room}
@@ -39,7 +38,9 @@ equal-requires c κs = search needs
 returns : tie.Need-returns Inv-loop μ-loop
 unfolding Γs
 returns c =
-    let found = round-end _ (c .before .before .before .before .loop .inv) (c .before .before .before .gamma .ensures) (c .before .before .gamma2 .ensures) (c .before .equal .ensures .0 (c .if1 .taken)) in
+    let turn = c .before .before .before .before in
+    let same = c .before .equal .ensures .0 (c .if1 .taken) in
+    let found = round-end _ (turn .loop .inv) (c .before .before .before .gamma .ensures) (c .before .before .gamma2 .ensures) same in
     record { truths = found .0; nonfalse = found .1 }
 
 loop-less : tie.Need-loop-less Inv-loop μ-loop
@@ -47,8 +48,8 @@ unfolding Γs
 loop-less c =
     let ws = c .before .before .gamma2 .result .words in
     let size : length ws ≡ nWords = search needs in
-    round-falls _ (c .before .before .before .before .loop .inv) (c .before .before .before .gamma .ensures) (c .before .before .gamma2 .ensures) (λ A a. omega (arith, member-below ws A a))
-    (λ same. true≢false (sym (c .before .equal .ensures .1 same) ∙ c .if1 .left))
+    round-falls _ (c .before .before .before .before .loop .inv) (c .before .before .before .gamma .ensures) (c .before .before .gamma2 .ensures)
+    (member-room ws size) (λ same. true≢false (sym (c .before .equal .ensures .1 same) ∙ c .if1 .left))
 
 loop-again : tie.Need-loop-again Inv-loop μ-loop
 unfolding Γs
