@@ -3,3 +3,6 @@ pub mod Rows
 pub mod Lookup
 pub mod Tables
 pub mod Back
+pub mod Parts
+pub mod Counts
+pub mod Heads

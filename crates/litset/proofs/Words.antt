@@ -30,6 +30,10 @@ member-below ws l m = go (decLt (l / 64) (length ws))
     go (yes h) = omega arith
     go (no h) = absurd (true≢false (sym m ∙ none-past ws l (omega arith)))
 
+-- so the members of a `LitSet` lie below its capacity
+pub member-room : (ws : List ℕ) → length ws ≡ nWords → (l : ℕ) → l ∈ setOf ws → l < capacity
+member-room ws size l m = omega (arith, member-below ws l m)
+
 getD-zeros : (n i : ℕ) → _≡_ {A = ℕ} (getD (replicate n 0) i 0) 0
 getD-zeros zero i = refl
 getD-zeros (suc n) zero = refl

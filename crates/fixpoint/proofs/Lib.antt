@@ -1,0 +1,7 @@
+-- The laws of passes and of the model.
+pub mod Pass
+pub mod Tables
+pub mod Room
+pub mod Kept
+pub mod Growth
+pub mod Published

@@ -1,0 +1,25 @@
+-- The room that a set leaves: how many literals below the capacity are outside it. A set that grows leaves less.
+use mathlib.Core.Path.{_≡_, refl}
+use mathlib.Core.Logic.{_⊎_, inl, inr}
+use mathlib.Core.Bool.{true}
+use mathlib.Core.List.{List}
+use Prim.Native.Nat.{ℕ, _<_}
+use Rattle.wfsx.specs.Sets.{Set, _∈_, _∉_, _⊆_, _isIn_, members}
+use Rattle.wfsx.proofs.Sets.{⊆-antisym, outside, outside-falls, first-missing}
+use Rattle.wfsx.proofs.Members.{members-are}
+use Rattle.litset.specs.Words.{capacity}
+
+-- every literal that a set has room for
+unfoldable pub literals : List ℕ
+literals = members capacity (λ A. true)
+
+abbrev pub room : Set → ℕ
+room S = outside S literals
+
+pub room-falls : (X Y : Set) → X ⊆ Y → ((A : ℕ) → A ∈ Y → A < capacity) → (X ≡ Y → ⊥) → room Y < room X
+unfolding literals
+room-falls X Y f below ne = go (first-missing X Y literals)
+  where
+    go : ((A : ℕ) → A isIn literals → A ∈ Y → A ∈ X) ⊎ ((A : ℕ) × A isIn literals × A ∈ Y × A ∉ X) → room Y < room X
+    go (inl g) = absurd (ne (⊆-antisym f (λ A a. g A (members-are capacity (λ _. true) A .1 (refl, below A a)) a)))
+    go (inr w) = outside-falls X Y f (w .0) (w .3) (w .2) (w .1)

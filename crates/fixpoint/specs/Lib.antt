@@ -1,0 +1,3 @@
+-- What the contracts of `fixpoint` cite.
+pub mod Pass
+pub mod Result
