@@ -4,11 +4,11 @@
 use mathlib.Core.Path.{_≡_, refl, sym}
 use mathlib.Core.Bool.{true, false}
 use mathlib.Core.List.{List}
-use Prim.Native.Nat.{ℕ, suc, _+_, _*_, _≤_, _<_}
+use Prim.Native.Nat.{ℕ, _+_, _*_, _<_}
 use native.Mathlib.Nat.{mul-le-mul-right, suc-mul}
 use native.Mathlib.Omega.{arith}
 use lib.ListN.{length}
-use Rattle.wfsx.specs.Sets.{Set, ∅, add, _isIn_, members}
+use Rattle.wfsx.specs.Sets.{Set, ∅, members}
 use Rattle.wfsx.specs.Trees.{Tree, T, TU}
 use Rattle.wfsx.proofs.Sets.{outside, outside-most, outside-add}
 use Rattle.wfsx.proofs.Members.{members-are}
@@ -56,19 +56,19 @@ unfolding t-size tu-size
 complement-falls t Y X e = omega arith
 
 -- from a child to its node
-module _ (t : ℕ) (Y X : Set) where
-  pub T-t-falls : child-size T Y X ≡ t → t-size X < t
+module _ (t : ℕ) (k : Tree) (Y X : Set) (e : child-size k Y X ≡ t) where
+  pub T-t-falls : k ≡ T → t-size X < t
   unfolding t-size tu-size child-size
-  T-t-falls e = omega arith
+  T-t-falls q = let f = rw q at e in omega arith
 
-  pub T-tu-falls : child-size T Y X ≡ t → (Z : Set) → Z ≡ ∅ → tu-size Z X < t
+  pub T-tu-falls : k ≡ T → (Z : Set) → Z ≡ ∅ → tu-size Z X < t
   unfolding child-size
-  T-tu-falls e Z z = rw z (omega arith)
+  T-tu-falls q Z z = let f = rw q at e in rw z (omega arith)
 
-  pub TU-t-falls : child-size TU Y X ≡ t → t-size X < t
+  pub TU-t-falls : k ≡ TU → t-size X < t
   unfolding t-size tu-size child-size
-  TU-t-falls e = omega arith
+  TU-t-falls q = let f = rw q at e in omega arith
 
-  pub TU-tu-falls : child-size TU Y X ≡ t → tu-size Y X < t
+  pub TU-tu-falls : k ≡ TU → tu-size Y X < t
   unfolding child-size
-  TU-tu-falls e = omega arith
+  TU-tu-falls q = let f = rw q at e in omega arith

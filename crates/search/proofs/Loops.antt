@@ -1,7 +1,7 @@
 -- The two loops of the walk, over plain values: at each turn what is left to ask, from here on, is the answer of the whole.
 use mathlib.Core.Path.{_≡_, refl, sym, _∙_, ap}
 use mathlib.Core.Bool.{Bool, true, false, cond, _&&_, _||_, and-false}
-use mathlib.Core.List.{List, [], _∷_, map}
+use mathlib.Core.List.{List, [], map}
 use Prim.Native.Nat.{ℕ, zero, suc, _+_, _-_, _/_, _%_, _≤_, _<_}
 use native.Mathlib.Omega.{arith}
 use native.Mathlib.Decide.{decLt}
@@ -48,6 +48,15 @@ module _ {rule : ℕ → Rule} {f : Entry → Bool} {a n : ℕ} where
 
 -- ---- the entries of a body
 
+-- a stored entry is the question that its two parts make
+question-stored : (e : ℕ) → questionOf (e / 2 % capacity) (eqb (e % 2) 1) ≡ entryOf e
+question-stored e = go (e % 2) (omega arith)
+  where
+    go : (d : ℕ) → d < 2 → questionOf (e / 2 % capacity) (eqb d 1) ≡ cond (eqb d 0) (positive (e / 2 % capacity)) (default (e / 2 % capacity))
+    go zero h = refl
+    go (suc zero) h = refl
+    go (suc (suc d)) h = absurd (omega arith)
+
 -- the entries from j to before `end`
 abbrev pub between : List ℕ → ℕ → ℕ → List Entry
 between es j end = map entryOf (take (end - j) (drop j es))
@@ -57,22 +66,22 @@ pub record EntriesLeft (f : Entry → Bool) (es : List ℕ) (from end j : ℕ) :
   pub left : every f (between es from end) ≡ every f (between es j end)
 
 module _ {f : Entry → Bool} {es : List ℕ} {from end : ℕ} where
-  pub entries-first : EntriesLeft f es from end from
-  entries-first = record { left = refl }
+  pub entries-first : {j : ℕ} → j ≡ from → EntriesLeft f es from end j
+  entries-first e = record { left = rw e refl }
 
-  -- what entry j gives, and the rest
-  next-entry : {j : ℕ} → j < end → j < length es → EntriesLeft f es from end j
-      → every f (between es from end) ≡ (f (entryOf (getD es j 0)) && every f (between es (j + 1) end))
-  unfolding every
-  next-entry {j} h i l =
-      let more : end - j ≡ suc (end - (j + 1)) = omega arith in
-      l .left ∙ rw (more, drop-cons es j 0 i, add-one j) refl
+  -- what entry j gives, taken as a question, and the rest
+  module _ {j e : ℕ} (h : j < end) (i : j < length es) (q : e ≡ getD es j 0) (l : EntriesLeft f es from end j) where
+    next-entry : every f (between es from end) ≡ (f (questionOf (e / 2 % capacity) (eqb (e % 2) 1)) && every f (between es (j + 1) end))
+    unfolding every
+    next-entry =
+        let more : end - j ≡ suc (end - (j + 1)) = omega arith in
+        l .left ∙ rw (more, drop-cons es j 0 i, add-one j, question-stored e, q) refl
 
-  pub entries-more : {j : ℕ} → j < end → j < length es → true ≡ f (entryOf (getD es j 0)) → EntriesLeft f es from end j → EntriesLeft f es from end (j + 1)
-  entries-more h i e l = record { left = next-entry h i l ∙ rw (← e) refl }
+    pub entries-more : true ≡ f (questionOf (e / 2 % capacity) (eqb (e % 2) 1)) → EntriesLeft f es from end (j + 1)
+    entries-more v = record { left = next-entry ∙ rw (← v) refl }
 
-  pub entries-fail : {j : ℕ} → j < end → j < length es → false ≡ f (entryOf (getD es j 0)) → EntriesLeft f es from end j → false ≡ every f (between es from end)
-  entries-fail h i e l = sym (next-entry h i l ∙ rw (← e) refl)
+    pub entries-fail : false ≡ f (questionOf (e / 2 % capacity) (eqb (e % 2) 1)) → false ≡ every f (between es from end)
+    entries-fail v = sym (next-entry ∙ rw (← v) refl)
 
   pub entries-over : {j : ℕ} → (j < end → length es ≤ j) → EntriesLeft f es from end j → true ≡ every f (between es from end)
   unfolding every
@@ -85,12 +94,3 @@ module _ {f : Entry → Bool} {es : List ℕ} {from end : ℕ} where
           none zero = refl
           none (suc n) = refl
       go (no h) = let z : end - j ≡ 0 = omega arith in rw z refl
-
--- a stored entry is the question that its two parts make
-pub question-stored : (e : ℕ) → questionOf (e / 2 % capacity) (eqb (e % 2) 1) ≡ entryOf e
-question-stored e = go (e % 2) (omega arith)
-  where
-    go : (d : ℕ) → d < 2 → questionOf (e / 2 % capacity) (eqb d 1) ≡ cond (eqb d 0) (positive (e / 2 % capacity)) (default (e / 2 % capacity))
-    go zero h = refl
-    go (suc zero) h = refl
-    go (suc (suc d)) h = absurd (omega arith)

@@ -4,19 +4,20 @@ use mathlib.Core.Bool.{Bool, true, false, not, _&&_, _||_, and-false, or-true, o
 use mathlib.Core.List.{List}
 use Prim.Native.Nat.{ℕ, zero, suc, _%_, _≤_, _<_}
 use native.Mathlib.Omega.{arith}
-use lib.Dec.{eqb}
 use lib.ListN.{length, getD}
 use borrow.Author.Tests.{ne-eqb}
 use Rattle.wfsx.specs.Sets.{Set, _∈_, ∅, add}
-use Rattle.wfsx.specs.Program.{compl, Entry, positive, default, Rule, Program}
-use Rattle.wfsx.specs.Model.{every, supported}
+use Rattle.wfsx.specs.Program.{compl, Entry, Rule, Program}
+use Rattle.wfsx.specs.Model.{supported}
 use Rattle.wfsx.specs.Trees.{Tree, T, TU, child, tree, answer}
-use Rattle.wfsx.proofs.Sets.{clash, refuted}
+use Rattle.wfsx.proofs.Sets.{refuted}
 use Rattle.wfsx.proofs.Facts.{supported-facts}
 use Rattle.wfsx.proofs.Trees.{one-set-unfolds, complement-once, first-way}
 use Rattle.litset.specs.Words.{nWords, capacity, setOf, with}
 use Rattle.litset.proofs.Words.{member-below, with-room}
-use Rattle.book.specs.Book.{rows, literalOf, ruleAt, rulesIn}
+use Rattle.book.specs.Limits.{maxRules}
+use Rattle.book.specs.Book.{rows, clamp, ruleAt, rulesIn, programOf}
+use Rattle.book.specs.declared.Book.{Book}
 use Rattle.search.specs.Questions.{questionOf}
 use Rattle.search.specs.Walk.{programIn, childIn}
 
@@ -80,24 +81,24 @@ module _ (heads starts entries : List ℕ) (count : ℕ) (facts : List ℕ) wher
       tu-rules len h e f m W w =
           sym (tu-node len ∙ rw (← q, ← e, ← f, ← m, or-false (supported rules (child (tree program) TU (add a Y) X) a), ← with-room a Y h, ← w) refl)
 
-  -- ---- a child
+  -- ---- a child: r is what the node that it opens answers
 
-  module _ (Y X : Set) (b : ℕ) where
-    pub T-positive : tree program T ∅ X b ≡ childIn program T Y X (positive b)
+  module _ (Y X : Set) (b : ℕ) (k : Tree) (d r : Bool) where
+    pub T-positive : k ≡ T → d ≡ false → r ≡ tree program T ∅ X b → r ≡ childIn program k Y X (questionOf b d)
     unfolding childIn
-    T-positive = refl
+    T-positive e f q = rw (e, f) q
 
-    pub T-default : (Z : Set) → Z ≡ ∅ → not (tree program TU Z X b) ≡ childIn program T Y X (default b)
+    pub T-default : k ≡ T → d ≡ true → (Z : Set) → Z ≡ ∅ → r ≡ tree program TU Z X b → not r ≡ childIn program k Y X (questionOf b d)
     unfolding childIn
-    T-default Z e = rw e (sym (first-way program ∅ X b))
+    T-default e f Z z q = rw (e, f, q, z) (sym (first-way program ∅ X b))
 
-    pub TU-positive : tree program TU Y X b ≡ childIn program TU Y X (positive b)
+    pub TU-positive : k ≡ TU → d ≡ false → r ≡ tree program TU Y X b → r ≡ childIn program k Y X (questionOf b d)
     unfolding childIn
-    TU-positive = refl
+    TU-positive e f q = rw (e, f) q
 
-    pub TU-default : not (tree program T ∅ X b) ≡ childIn program TU Y X (default b)
+    pub TU-default : k ≡ TU → d ≡ true → r ≡ tree program T ∅ X b → not r ≡ childIn program k Y X (questionOf b d)
     unfolding childIn
-    TU-default = refl
+    TU-default e f q = rw (e, f, q) refl
 
   -- ---- a literal past the capacity
 
@@ -124,3 +125,14 @@ module _ (heads starts entries : List ℕ) (count : ℕ) (facts : List ℕ) wher
     past-capacity T true = sym (first-way program ∅ ∅ A ∙ rw tu-fails refl)
     past-capacity TU false = sym tu-fails
     past-capacity TU true = rw t-fails refl
+
+-- ---- the question: the tables of a whole book, and nothing above it
+
+pub program-whole : (b : Book) (count : ℕ) (facts : List ℕ) → count ≡ clamp maxRules (b .rules) → programIn (b .heads) (b .starts) (b .entries) count facts ≡ programOf b (setOf facts)
+unfolding programIn programOf
+program-whole b count facts e = rw e refl
+
+pub question-whole : (P Q : Program) → P ≡ Q → (k : Tree) (Y X : Set) → Y ≡ ∅ → X ≡ ∅ → (q : Entry) → childIn P k Y X q ≡ answer Q k q
+unfolding childIn answer
+question-whole P Q e T Y X y x q = rw (e, x) refl
+question-whole P Q e TU Y X y x q = rw (e, y, x) refl

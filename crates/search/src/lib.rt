@@ -1,6 +1,6 @@
 // The search of a question through its pruned trees, by value: ancestors are sets of literals that each call hands on. Neither M nor N is read.
 ghost use mathlib.Core.Path.{_≡_};
-ghost use Prim.Native.Nat.{ℕ, _<_, _≤_};
+ghost use Prim.Native.Nat.{_<_, _≤_};
 ghost use Rattle.wfsx.specs.Sets.{∅};
 ghost use Rattle.wfsx.specs.Program.{compl};
 ghost use Rattle.wfsx.specs.Model.{every, supported};
@@ -62,7 +62,16 @@ fn child<'a>(
         Tree::T => {
             if default {
                 // The second way, a T-tree for the complement, is left out: it follows from the first (`first-way`).
-                return !tu_node(heads, starts, entries, count, facts, b, litset::empty(), above);
+                return !tu_node(
+                    heads,
+                    starts,
+                    entries,
+                    count,
+                    facts,
+                    b,
+                    litset::empty(),
+                    above,
+                );
             }
             return t_node(heads, starts, entries, count, facts, b, above);
         }
@@ -95,7 +104,17 @@ fn t_node<'a>(
         return true;
     }
     let wider = litset::insert(above, a);
-    some_rule(heads, starts, entries, count, facts, Tree::T, a, litset::empty(), wider)
+    some_rule(
+        heads,
+        starts,
+        entries,
+        count,
+        facts,
+        Tree::T,
+        a,
+        litset::empty(),
+        wider,
+    )
 }
 
 // A node of a TU-tree with its local path. The added leaf, `not` of the complement, is asked for once and not under each rule
@@ -124,7 +143,17 @@ fn tu_node<'a>(
         return true;
     }
     let longer = litset::insert(path, a);
-    some_rule(heads, starts, entries, count, facts, Tree::Tu, a, longer, above)
+    some_rule(
+        heads,
+        starts,
+        entries,
+        count,
+        facts,
+        Tree::Tu,
+        a,
+        longer,
+        above,
+    )
 }
 
 // Whether all children under some rule for `a` hold.
@@ -175,7 +204,18 @@ fn all_children<'a>(
     let mut j = wide(starts[i]);
     while j < end {
         let e = wide(entries[j]);
-        if !child(heads, starts, entries, count, facts, kind, e / 2 % litset::CAPACITY, e % 2 == 1, path, above) {
+        if !child(
+            heads,
+            starts,
+            entries,
+            count,
+            facts,
+            kind,
+            e / 2 % litset::CAPACITY,
+            e % 2 == 1,
+            path,
+            above,
+        ) {
             return false;
         }
         j += 1;
