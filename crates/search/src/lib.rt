@@ -24,7 +24,7 @@ pub fn search(book: Book, facts: LitSet, literal: usize, default: bool, kind: Tr
 {
     if literal < litset::CAPACITY {
         let count = book::rule_count(book);
-        return child(
+        let holds = child(
             &book.heads,
             &book.starts,
             &book.entries,
@@ -36,6 +36,7 @@ pub fn search(book: Book, facts: LitSet, literal: usize, default: bool, kind: Tr
             litset::empty(),
             litset::empty(),
         );
+        return holds;
     }
     default
 }
@@ -135,25 +136,25 @@ fn tu_node<'a>(
     if litset::contains(path, a) {
         return false;
     }
-    let blocked = t_node(heads, starts, entries, count, facts, other(a), above);
-    if blocked {
-        return false;
+    let leaf = !t_node(heads, starts, entries, count, facts, other(a), above);
+    if leaf {
+        if litset::contains(facts, a) {
+            return true;
+        }
+        let longer = litset::insert(path, a);
+        return some_rule(
+            heads,
+            starts,
+            entries,
+            count,
+            facts,
+            Tree::Tu,
+            a,
+            longer,
+            above,
+        );
     }
-    if litset::contains(facts, a) {
-        return true;
-    }
-    let longer = litset::insert(path, a);
-    some_rule(
-        heads,
-        starts,
-        entries,
-        count,
-        facts,
-        Tree::Tu,
-        a,
-        longer,
-        above,
-    )
+    false
 }
 
 // Whether all children under some rule for `a` hold.

@@ -283,14 +283,11 @@ tu-node-other-requires t c κs = search needs
 tu-node-t-node-requires : (t : ℕ) → tu-node-lts.Need-t-node-requires (tu-node-claims t) (tu-node-at t) tu-node.Post
 tu-node-t-node-requires t c κs = (complement-falls _ _ _ (c .before .before .before .before .before .before .pre .0), (c .before .before .before .before .before .before .pre .1 .0, c .other .ensures .1))
 
-tu-node-returns-2 : (t : ℕ) → tu-node-lts.Need-returns-2 (tu-node-claims t) (tu-node-at t) tu-node.Post
-tu-node-returns-2 t c = tu-blocked _ _ _ _ _ _ _ _ _ (c .before .before .other .ensures .0) (sym (c .if2 .taken) ∙ c .before .t-node .ensures)
-
 tu-node-contains-requires-2 : (t : ℕ) → tu-node-lts.Need-contains-requires-2 (tu-node-claims t) (tu-node-at t) tu-node.Post
 tu-node-contains-requires-2 t c κs = search needs
 
-tu-node-returns-3 : (t : ℕ) → tu-node-lts.Need-returns-3 (tu-node-claims t) (tu-node-at t) tu-node.Post
-tu-node-returns-3 t c = tu-fact _ _ _ _ _ _ _ _ _ (c .before .before .before .before .other .ensures .0) (c .before .before .before .before .before .before .before .before .before .before .pre .1 .0 .facts-room) (sym (c .before .before .before .before .before .if1 .left) ∙ c .before .before .before .before .before .before .contains .ensures) (sym (c .before .before .if2 .left) ∙ c .before .before .before .t-node .ensures) (sym (c .if3 .taken) ∙ c .before .contains2 .ensures)
+tu-node-returns-2 : (t : ℕ) → tu-node-lts.Need-returns-2 (tu-node-claims t) (tu-node-at t) tu-node.Post
+tu-node-returns-2 t c = tu-fact _ _ _ _ _ _ _ _ _ (c .before .before .before .before .other .ensures .0) (c .before .before .before .before .before .before .before .before .before .before .pre .1 .0 .facts-room) (sym (c .before .before .before .before .before .if1 .left) ∙ c .before .before .before .before .before .before .contains .ensures) (sym (not-true _ (c .before .before .if2 .taken)) ∙ c .before .before .before .t-node .ensures) (sym (c .if3 .taken) ∙ c .before .contains2 .ensures)
 
 tu-node-insert-requires : (t : ℕ) → tu-node-lts.Need-insert-requires (tu-node-claims t) (tu-node-at t) tu-node.Post
 tu-node-insert-requires t c κs = search needs
@@ -298,8 +295,11 @@ tu-node-insert-requires t c κs = search needs
 tu-node-some-rule-requires : (t : ℕ) → tu-node-lts.Need-some-rule-requires (tu-node-claims t) (tu-node-at t) tu-node.Post
 tu-node-some-rule-requires t c κs = (tu-falls _ (c .before .before .before .before .before .before .before .before .before .before .before .pre .1 .1) _ _ (c .insert .ensures) (sym (c .before .before .before .before .before .before .if1 .left) ∙ c .before .before .before .before .before .before .before .contains .ensures) _ _ (c .before .before .before .before .before .before .before .before .before .before .before .pre .0), c .before .before .before .before .before .before .before .before .before .before .before .pre .1 .0)
 
+tu-node-returns-3 : (t : ℕ) → tu-node-lts.Need-returns-3 (tu-node-claims t) (tu-node-at t) tu-node.Post
+tu-node-returns-3 t c = c .some-rule .ensures ∙ tu-rules _ _ _ _ _ _ _ _ _ (c .before .before .before .before .before .before .other .ensures .0) (c .before .before .before .before .before .before .before .before .before .before .before .before .pre .1 .0 .facts-room) (c .before .before .before .before .before .before .before .before .before .before .before .before .pre .1 .1) (sym (c .before .before .before .before .before .before .before .if1 .left) ∙ c .before .before .before .before .before .before .before .before .contains .ensures) (sym (not-true _ (c .before .before .before .before .if2 .taken)) ∙ c .before .before .before .before .before .t-node .ensures) (sym (c .before .before .if3 .left) ∙ c .before .before .before .contains2 .ensures) _ (c .before .insert .ensures)
+
 tu-node-returns-4 : (t : ℕ) → tu-node-lts.Need-returns-4 (tu-node-claims t) (tu-node-at t) tu-node.Post
-tu-node-returns-4 t c = c .some-rule .ensures ∙ tu-rules _ _ _ _ _ _ _ _ _ (c .before .before .before .before .before .before .other .ensures .0) (c .before .before .before .before .before .before .before .before .before .before .before .before .pre .1 .0 .facts-room) (c .before .before .before .before .before .before .before .before .before .before .before .before .pre .1 .1) (sym (c .before .before .before .before .before .before .before .if1 .left) ∙ c .before .before .before .before .before .before .before .before .contains .ensures) (sym (c .before .before .before .before .if2 .left) ∙ c .before .before .before .before .before .t-node .ensures) (sym (c .before .before .if3 .left) ∙ c .before .before .before .contains2 .ensures) _ (c .before .insert .ensures)
+tu-node-returns-4 t c = tu-blocked _ _ _ _ _ _ _ _ _ (c .before .before .other .ensures .0) (sym (not-false _ (c .if2 .left)) ∙ c .before .t-node .ensures)
 
 pub +all-children+child+some-rule+t-node+tu-node-spec : {M : Type 1} → statement M
 +all-children+child+some-rule+t-node+tu-node-spec =
@@ -375,9 +375,9 @@ pub +all-children+child+some-rule+t-node+tu-node-spec : {M : Type 1} → stateme
     (tu-node-returns t)
     (tu-node-other-requires t)
     (tu-node-t-node-requires t)
-    (tu-node-returns-2 t)
     (tu-node-contains-requires-2 t)
-    (tu-node-returns-3 t)
+    (tu-node-returns-2 t)
     (tu-node-insert-requires t)
     (tu-node-some-rule-requires t)
+    (tu-node-returns-3 t)
     (tu-node-returns-4 t)
