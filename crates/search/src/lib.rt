@@ -19,26 +19,26 @@ pub enum Tree {
 
 // Whether the literal, or `not` of it where `default` says so, holds as the question of a search of this kind. A literal past the capacity has
 // no rule and is no fact: it fails, and `not` of it holds.
-pub fn search(book: Book, facts: LitSet, literal: usize, default: bool, kind: Tree) -> bool
-    ensures { λ r. ⌜ r ≡ answer (programOf book (setOf (facts .words))) (treeOf kind) (questionOf literal default) ⌝ }
+pub fn search(book: Book, facts: LitSet, literal: usize, default: bool, tree: Tree) -> bool
+    ensures { λ r. ⌜ r ≡ answer (programOf book (setOf (facts .words))) (treeOf tree) (questionOf literal default) ⌝ }
 {
-    if literal < litset::CAPACITY {
-        let count = book::rule_count(book);
-        let holds = child(
-            &book.heads,
-            &book.starts,
-            &book.entries,
-            count,
-            facts,
-            kind,
-            literal,
-            default,
-            litset::empty(),
-            litset::empty(),
-        );
-        return holds;
+    if litset::CAPACITY <= literal {
+        return default;
     }
-    default
+    let count = book::rule_count(book);
+    let holds = child(
+        &book.heads,
+        &book.starts,
+        &book.entries,
+        count,
+        facts,
+        tree,
+        literal,
+        default,
+        litset::empty(),
+        litset::empty(),
+    );
+    holds
 }
 
 // The tables of a book are lent, and not copied, from call to call.
