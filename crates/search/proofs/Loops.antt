@@ -58,12 +58,12 @@ question-stored e = go (e % 2) (omega arith)
     go (suc (suc d)) h = absurd (omega arith)
 
 -- the entries from j to before `end`
-abbrev pub between : List ℕ → ℕ → ℕ → List Entry
-between es j end = map entryOf (take (end - j) (drop j es))
+abbrev pub bodyFrom : List ℕ → ℕ → ℕ → List Entry
+bodyFrom es j end = map entryOf (take (end - j) (drop j es))
 
 -- Of the entries from `from` to before `end` those from j on decide whether all pass the test.
 pub record EntriesLeft (f : Entry → Bool) (es : List ℕ) (from end j : ℕ) : Type 0 where
-  pub left : every f (between es from end) ≡ every f (between es j end)
+  pub left : every f (bodyFrom es from end) ≡ every f (bodyFrom es j end)
 
 module _ {f : Entry → Bool} {es : List ℕ} {from end : ℕ} where
   pub entries-first : {j : ℕ} → j ≡ from → EntriesLeft f es from end j
@@ -71,7 +71,7 @@ module _ {f : Entry → Bool} {es : List ℕ} {from end : ℕ} where
 
   -- what entry j gives, taken as a question, and the rest
   module _ {j e : ℕ} (h : j < end) (i : j < length es) (q : e ≡ getD es j 0) (l : EntriesLeft f es from end j) where
-    next-entry : every f (between es from end) ≡ (f (questionOf (e / 2 % capacity) (eqb (e % 2) 1)) && every f (between es (j + 1) end))
+    next-entry : every f (bodyFrom es from end) ≡ (f (questionOf (e / 2 % capacity) (eqb (e % 2) 1)) && every f (bodyFrom es (j + 1) end))
     unfolding every
     next-entry =
         let more : end - j ≡ suc (end - (j + 1)) = omega arith in
@@ -80,14 +80,14 @@ module _ {f : Entry → Bool} {es : List ℕ} {from end : ℕ} where
     pub entries-more : true ≡ f (questionOf (e / 2 % capacity) (eqb (e % 2) 1)) → EntriesLeft f es from end (j + 1)
     entries-more v = record { left = next-entry ∙ rw (← v) refl }
 
-    pub entries-fail : false ≡ f (questionOf (e / 2 % capacity) (eqb (e % 2) 1)) → false ≡ every f (between es from end)
+    pub entries-fail : false ≡ f (questionOf (e / 2 % capacity) (eqb (e % 2) 1)) → false ≡ every f (bodyFrom es from end)
     entries-fail v = sym (next-entry ∙ rw (← v) refl)
 
-  pub entries-over : {j : ℕ} → (j < end → length es ≤ j) → EntriesLeft f es from end j → true ≡ every f (between es from end)
+  pub entries-over : {j : ℕ} → (j < end → length es ≤ j) → EntriesLeft f es from end j → true ≡ every f (bodyFrom es from end)
   unfolding every
   entries-over {j} o l = sym (l .left ∙ ap (λ (m : List Entry). every f m) (go (decLt j end)))
     where
-      go : Dec (j < end) → between es j end ≡ []
+      go : Dec (j < end) → bodyFrom es j end ≡ []
       go (yes h) = rw (drop-of-length-le es (o h)) (none (end - j))
         where
           none : (n : ℕ) → map entryOf (take n []) ≡ []

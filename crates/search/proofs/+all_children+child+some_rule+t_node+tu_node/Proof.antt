@@ -1,8 +1,9 @@
 -- The walk, as one cycle of calls: each node, child and loop answers what the trees' definition has there, if the calls below it do, and each
 -- call has a smaller falling number (`Falls`). A node and a child are read by the laws of `Nodes`, one for each `return`; a loop by the laws of
 -- `Loops`, where what is left to ask, from here on, is the answer of the whole.
-use mathlib.Core.Path.{sym, ap, _∙_}
-use Prim.Native.Nat.{_+_, _-_}
+use mathlib.Core.Path.{_≡_, sym, ap, _∙_}
+use mathlib.Core.Bool.{false}
+use Prim.Native.Nat.{ℕ, _+_, _-_, _<_}
 use native.Mathlib.Omega.{arith}
 use borrow.Author.Needs.{needs}
 use borrow.Author.Tests.{not-true, not-false}
@@ -14,7 +15,6 @@ use Rattle.search.specs.Walk.{programIn, childIn}
 use Rattle.search.proofs.Loops.{RulesLeft, rules-first, rules-other, rules-fail, rules-hold, rules-over, EntriesLeft, entries-first, entries-more, entries-fail, entries-over}
 use Rattle.search.proofs.Nodes.{t-pruned, t-fact, t-rules, tu-pruned, tu-blocked, tu-fact, tu-rules, T-positive, T-default, TU-positive, TU-default}
 use Rattle.search.proofs.Falls.{t-size, tu-size, child-size, t-falls, tu-falls, complement-falls, T-t-falls, T-tu-falls, TU-t-falls, TU-tu-falls}
-use Prim.Native.Nat.{ℕ, _<_}
 use borrow.Fn.Kinds.{In}
 use borrow.Fn.PlainCycle.{Measures, is, falls, and}
 use Rattle.search.proofs.all_children.Reads as all-children
@@ -42,13 +42,16 @@ use Rattle.search.proofs.+all_children+child+some_rule+t_node+tu_node.{
 use Rattle.search.proofs.+all_children+child+some_rule+t_node+tu_node.Tie.{close}
 
 abbrev μ-all-children : Measures 1 all-children-kinds.ps ℕ
-μ-all-children κs a = child-size (treeOf (a .1 .1 .1 .1 .1 .0)) (setOf (a .1 .1 .1 .1 .1 .1 .1 .0 .words)) (setOf (a .1 .1 .1 .1 .1 .1 .1 .1 .0 .words)) + 1
+μ-all-children κs a =
+    child-size (treeOf (a .1 .1 .1 .1 .1 .0)) (setOf (a .1 .1 .1 .1 .1 .1 .1 .0 .words)) (setOf (a .1 .1 .1 .1 .1 .1 .1 .1 .0 .words)) + 1
 
 abbrev μ-child : Measures 1 child-kinds.ps ℕ
-μ-child κs a = child-size (treeOf (a .1 .1 .1 .1 .1 .0)) (setOf (a .1 .1 .1 .1 .1 .1 .1 .1 .0 .words)) (setOf (a .1 .1 .1 .1 .1 .1 .1 .1 .1 .0 .words))
+μ-child κs a =
+    child-size (treeOf (a .1 .1 .1 .1 .1 .0)) (setOf (a .1 .1 .1 .1 .1 .1 .1 .1 .0 .words)) (setOf (a .1 .1 .1 .1 .1 .1 .1 .1 .1 .0 .words))
 
 abbrev μ-some-rule : Measures 1 some-rule-kinds.ps ℕ
-μ-some-rule κs a = child-size (treeOf (a .1 .1 .1 .1 .1 .0)) (setOf (a .1 .1 .1 .1 .1 .1 .1 .0 .words)) (setOf (a .1 .1 .1 .1 .1 .1 .1 .1 .0 .words)) + 2
+μ-some-rule κs a =
+    child-size (treeOf (a .1 .1 .1 .1 .1 .0)) (setOf (a .1 .1 .1 .1 .1 .1 .1 .0 .words)) (setOf (a .1 .1 .1 .1 .1 .1 .1 .1 .0 .words)) + 2
 
 abbrev μ-t-node : Measures 1 t-node-kinds.ps ℕ
 μ-t-node κs a = t-size (setOf (a .1 .1 .1 .1 .1 .1 .0 .words))
@@ -94,7 +97,8 @@ abbrev tu-node-below : ℕ → In 1 tu-node-kinds.ps
 tu-node-below t = and 1 tu-node-kinds.ps (falls 1 tu-node-kinds.ps _<_ μ-tu-node t) tu-node.Pre
 
 abbrev all-children-Inv-loop : all-children-lts.InvT-loop
-all-children-Inv-loop heads starts entries count facts kind i path above end j₀ j = EntriesLeft (childIn (programIn heads starts entries count (facts .words)) (treeOf kind) (setOf (path .words)) (setOf (above .words))) entries (getD starts i 0) (getD starts (i + 1) 0) j
+all-children-Inv-loop heads starts entries count facts kind i path above end j₀ j =
+    EntriesLeft (childIn (programIn heads starts entries count (facts .words)) (treeOf kind) (setOf (path .words)) (setOf (above .words))) entries (getD starts i 0) (getD starts (i + 1) 0) j
 
 abbrev all-children-μ-loop : all-children-lts.MeasureT-loop
 all-children-μ-loop heads starts entries count facts kind i path above end j₀ j = end - j
@@ -102,63 +106,93 @@ all-children-μ-loop heads starts entries count facts kind i path above end j₀
 abbrev all-children-claims : ℕ → all-children-lts.Claims
 all-children-claims t = (wide-reads.Asked, wide-reads.Learnt, least-reads.Asked, least-reads.Learnt, child-below t, child.Post)
 
--- in the loop the entry is there
-all-children-in : (t : ℕ) (q : all-children-lts.In-loop (all-children-claims t) (all-children-at t) all-children.Post all-children-Inv-loop all-children-μ-loop) → (q .before .loop .j < getD (q .before .before .before .before .before .before .before .before .before .before .args .starts .now) (q .before .before .before .before .before .before .before .before .before .before .args .i + 1) 0) × (q .before .loop .j < length (q .before .before .before .before .before .before .before .before .before .before .args .entries .now))
-all-children-in t q = (omega (arith, q .loop-test .taken, q .before .before .before .before .least .ensures .0, q .before .before .before .before .before .wide .ensures), omega (arith, q .loop-test .taken, q .before .before .before .before .least .ensures .1 .0))
+-- in the loop the entry is one of the rule's, and is in the table
+all-children-in : (t : ℕ) (q : all-children-lts.In-loop (all-children-claims t) (all-children-at t) all-children.Post all-children-Inv-loop all-children-μ-loop)
+    → (q .before .loop .j < getD (q .before .before .before .before .before .before .before .before .before .before .args .starts .now) (q .before .before .before .before .before .before .before .before .before .before .args .i + 1) 0) × (q .before .loop .j < length (q .before .before .before .before .before .before .before .before .before .before .args .entries .now))
+all-children-in t q =
+    let least = q .before .before .before .before .least .ensures in
+    (omega (arith, q .loop-test .taken, least .0, q .before .before .before .before .before .wide .ensures), omega (arith, q .loop-test .taken, least .1 .0))
 
-all-children-add-wide : (t : ℕ) → all-children-lts.Need-add-wide (all-children-claims t) (all-children-at t) all-children.Post all-children-Inv-loop all-children-μ-loop
+all-children-add-wide : (t : ℕ)
+    → all-children-lts.Need-add-wide (all-children-claims t) (all-children-at t) all-children.Post all-children-Inv-loop all-children-μ-loop
 all-children-add-wide t c = search needs
 
-all-children-mul-wide : (t : ℕ) → all-children-lts.Need-mul-wide (all-children-claims t) (all-children-at t) all-children.Post all-children-Inv-loop all-children-μ-loop
+all-children-mul-wide : (t : ℕ)
+    → all-children-lts.Need-mul-wide (all-children-claims t) (all-children-at t) all-children.Post all-children-Inv-loop all-children-μ-loop
 all-children-mul-wide t c = search needs
 
-all-children-shared-slice-read-wide : (t : ℕ) → all-children-lts.Need-shared-slice-read-wide (all-children-claims t) (all-children-at t) all-children.Post all-children-Inv-loop all-children-μ-loop
+all-children-shared-slice-read-wide : (t : ℕ)
+    → all-children-lts.Need-shared-slice-read-wide (all-children-claims t) (all-children-at t) all-children.Post all-children-Inv-loop all-children-μ-loop
 all-children-shared-slice-read-wide t c = search needs
 
-all-children-wide-requires : (t : ℕ) → all-children-lts.Need-wide-requires (all-children-claims t) (all-children-at t) all-children.Post all-children-Inv-loop all-children-μ-loop
+all-children-wide-requires : (t : ℕ)
+    → all-children-lts.Need-wide-requires (all-children-claims t) (all-children-at t) all-children.Post all-children-Inv-loop all-children-μ-loop
 all-children-wide-requires t c κs = search needs
 
-all-children-least-requires : (t : ℕ) → all-children-lts.Need-least-requires (all-children-claims t) (all-children-at t) all-children.Post all-children-Inv-loop all-children-μ-loop
+all-children-least-requires : (t : ℕ)
+    → all-children-lts.Need-least-requires (all-children-claims t) (all-children-at t) all-children.Post all-children-Inv-loop all-children-μ-loop
 all-children-least-requires t c κs = search needs
 
-all-children-mul-wide-2 : (t : ℕ) → all-children-lts.Need-mul-wide-2 (all-children-claims t) (all-children-at t) all-children.Post all-children-Inv-loop all-children-μ-loop
+all-children-mul-wide-2 : (t : ℕ)
+    → all-children-lts.Need-mul-wide-2 (all-children-claims t) (all-children-at t) all-children.Post all-children-Inv-loop all-children-μ-loop
 all-children-mul-wide-2 t c = search needs
 
-all-children-shared-slice-read-wide-2 : (t : ℕ) → all-children-lts.Need-shared-slice-read-wide-2 (all-children-claims t) (all-children-at t) all-children.Post all-children-Inv-loop all-children-μ-loop
+all-children-shared-slice-read-wide-2 : (t : ℕ)
+    → all-children-lts.Need-shared-slice-read-wide-2 (all-children-claims t) (all-children-at t) all-children.Post all-children-Inv-loop all-children-μ-loop
 all-children-shared-slice-read-wide-2 t c = search needs
 
-all-children-wide-requires-2 : (t : ℕ) → all-children-lts.Need-wide-requires-2 (all-children-claims t) (all-children-at t) all-children.Post all-children-Inv-loop all-children-μ-loop
+all-children-wide-requires-2 : (t : ℕ)
+    → all-children-lts.Need-wide-requires-2 (all-children-claims t) (all-children-at t) all-children.Post all-children-Inv-loop all-children-μ-loop
 all-children-wide-requires-2 t c κs = search needs
 
-all-children-loop-holds : (t : ℕ) → all-children-lts.Need-loop-holds (all-children-claims t) (all-children-at t) all-children.Post all-children-Inv-loop all-children-μ-loop
+all-children-loop-holds : (t : ℕ)
+    → all-children-lts.Need-loop-holds (all-children-claims t) (all-children-at t) all-children.Post all-children-Inv-loop all-children-μ-loop
 all-children-loop-holds t c = entries-first (c .wide2 .ensures)
 
-all-children-mul-wide-3 : (t : ℕ) → all-children-lts.Need-mul-wide-3 (all-children-claims t) (all-children-at t) all-children.Post all-children-Inv-loop all-children-μ-loop
+all-children-mul-wide-3 : (t : ℕ)
+    → all-children-lts.Need-mul-wide-3 (all-children-claims t) (all-children-at t) all-children.Post all-children-Inv-loop all-children-μ-loop
 all-children-mul-wide-3 t c = search needs
 
-all-children-shared-slice-read-wide-3 : (t : ℕ) → all-children-lts.Need-shared-slice-read-wide-3 (all-children-claims t) (all-children-at t) all-children.Post all-children-Inv-loop all-children-μ-loop
+all-children-shared-slice-read-wide-3 : (t : ℕ)
+    → all-children-lts.Need-shared-slice-read-wide-3 (all-children-claims t) (all-children-at t) all-children.Post all-children-Inv-loop all-children-μ-loop
 all-children-shared-slice-read-wide-3 t c = all-children-in t (c .before) .1
 
-all-children-wide-requires-3 : (t : ℕ) → all-children-lts.Need-wide-requires-3 (all-children-claims t) (all-children-at t) all-children.Post all-children-Inv-loop all-children-μ-loop
+all-children-wide-requires-3 : (t : ℕ)
+    → all-children-lts.Need-wide-requires-3 (all-children-claims t) (all-children-at t) all-children.Post all-children-Inv-loop all-children-μ-loop
 all-children-wide-requires-3 t c κs = search needs
 
-all-children-child-requires : (t : ℕ) → all-children-lts.Need-child-requires (all-children-claims t) (all-children-at t) all-children.Post all-children-Inv-loop all-children-μ-loop
-all-children-child-requires t c κs = (omega (arith, c .before .before .before .before .before .before .before .before .before .before .before .before .pre .0), (c .before .before .before .before .before .before .before .before .before .before .before .before .pre .1 .0, omega arith))
+all-children-child-requires : (t : ℕ)
+    → all-children-lts.Need-child-requires (all-children-claims t) (all-children-at t) all-children.Post all-children-Inv-loop all-children-μ-loop
+all-children-child-requires t c κs =
+    let start = c .before .before .before .before .before .before .before .before .before .before .before .before in
+    (omega (arith, start .pre .0), (start .pre .1 .0, omega arith))
 
-all-children-returns : (t : ℕ) → all-children-lts.Need-returns (all-children-claims t) (all-children-at t) all-children.Post all-children-Inv-loop all-children-μ-loop
-all-children-returns t c = entries-fail (all-children-in t (c .before .before .before .before) .0) (all-children-in t (c .before .before .before .before) .1) (c .before .before .wide3 .ensures) (c .before .before .before .before .before .loop .inv) (sym (not-true _ (c .if1 .taken)) ∙ c .before .child .ensures)
+all-children-returns : (t : ℕ)
+    → all-children-lts.Need-returns (all-children-claims t) (all-children-at t) all-children.Post all-children-Inv-loop all-children-μ-loop
+all-children-returns t c =
+    let inside = all-children-in t (c .before .before .before .before) in
+    entries-fail (inside .0) (inside .1) (c .before .before .wide3 .ensures) (c .before .before .before .before .before .loop .inv) (sym (not-true _ (c .if1 .taken)) ∙ c .before .child .ensures)
 
-all-children-add-j : (t : ℕ) → all-children-lts.Need-add-j (all-children-claims t) (all-children-at t) all-children.Post all-children-Inv-loop all-children-μ-loop
+all-children-add-j : (t : ℕ)
+    → all-children-lts.Need-add-j (all-children-claims t) (all-children-at t) all-children.Post all-children-Inv-loop all-children-μ-loop
 all-children-add-j t c = search needs
 
-all-children-loop-less : (t : ℕ) → all-children-lts.Need-loop-less (all-children-claims t) (all-children-at t) all-children.Post all-children-Inv-loop all-children-μ-loop
+all-children-loop-less : (t : ℕ)
+    → all-children-lts.Need-loop-less (all-children-claims t) (all-children-at t) all-children.Post all-children-Inv-loop all-children-μ-loop
 all-children-loop-less t c = search needs
 
-all-children-loop-again : (t : ℕ) → all-children-lts.Need-loop-again (all-children-claims t) (all-children-at t) all-children.Post all-children-Inv-loop all-children-μ-loop
-all-children-loop-again t c = entries-more (all-children-in t (c .before .before .before .before) .0) (all-children-in t (c .before .before .before .before) .1) (c .before .before .wide3 .ensures) (c .before .before .before .before .before .loop .inv) (sym (not-false _ (c .if1 .left)) ∙ c .before .child .ensures)
+all-children-loop-again : (t : ℕ)
+    → all-children-lts.Need-loop-again (all-children-claims t) (all-children-at t) all-children.Post all-children-Inv-loop all-children-μ-loop
+all-children-loop-again t c =
+    let inside = all-children-in t (c .before .before .before .before) in
+    entries-more (inside .0) (inside .1) (c .before .before .wide3 .ensures) (c .before .before .before .before .before .loop .inv) (sym (not-false _ (c .if1 .left)) ∙ c .before .child .ensures)
 
-all-children-returns-2 : (t : ℕ) → all-children-lts.Need-returns-2 (all-children-claims t) (all-children-at t) all-children.Post all-children-Inv-loop all-children-μ-loop
-all-children-returns-2 t c = entries-over (λ h. omega (arith, c .loop-test .left, c .before .before .before .before .least .ensures .1 .1 (omega (arith, c .loop-test .left, c .before .before .before .before .before .wide .ensures)))) (c .before .loop .inv)
+all-children-returns-2 : (t : ℕ)
+    → all-children-lts.Need-returns-2 (all-children-claims t) (all-children-at t) all-children.Post all-children-Inv-loop all-children-μ-loop
+all-children-returns-2 t c =
+    entries-over
+    (λ h. omega (arith, c .loop-test .left, c .before .before .before .before .least .ensures .1 .1 (omega (arith, c .loop-test .left, c .before .before .before .before .before .wide .ensures))))
+    (c .before .loop .inv)
 
 abbrev child-claims : ℕ → child-lts.Claims
 child-claims t = (empty-reads.Asked, empty-reads.Learnt, tu-node-below t, tu-node.Post, t-node-below t, t-node.Post)
@@ -170,34 +204,47 @@ child-empty-requires : (t : ℕ) → child-lts.Need-empty-requires (child-claims
 child-empty-requires t c κs = search needs
 
 child-tu-node-requires : (t : ℕ) → child-lts.Need-tu-node-requires (child-claims t) (child-at t) child.Post
-child-tu-node-requires t c κs = (T-tu-falls _ _ _ _ (c .before .before .before .before .before .before .before .pre .0) (ap treeOf (c .before .before .enum-told .given .1)) _ (c .empty .ensures), c .before .before .before .before .before .before .before .pre .1)
+child-tu-node-requires t c κs =
+    let start = c .before .before .before .before .before .before .before in
+    (T-tu-falls _ _ _ _ (start .pre .0) (ap treeOf (c .before .before .enum-told .given .1)) _ (c .empty .ensures), start .pre .1)
 
 child-returns : (t : ℕ) → child-lts.Need-returns (child-claims t) (child-at t) child.Post
-child-returns t c = T-default _ _ _ _ _ _ _ _ _ _ _ (ap treeOf (c .before .before .before .enum-told .given .1)) (c .before .before .if1 .taken) _ (c .before .empty .ensures) (c .tu-node .ensures)
+child-returns t c =
+    T-default _ _ _ _ _ _ _ _ _ _ _ (ap treeOf (c .before .before .before .enum-told .given .1)) (c .before .before .if1 .taken) _ (c .before .empty .ensures) (c .tu-node .ensures)
 
 child-t-node-requires : (t : ℕ) → child-lts.Need-t-node-requires (child-claims t) (child-at t) child.Post
-child-t-node-requires t c κs = (T-t-falls _ _ _ _ (c .before .before .before .before .before .before .pre .0) (ap treeOf (c .before .enum-told .given .1)), c .before .before .before .before .before .before .pre .1)
+child-t-node-requires t c κs =
+    let start = c .before .before .before .before .before .before in
+    (T-t-falls _ _ _ _ (start .pre .0) (ap treeOf (c .before .enum-told .given .1)), start .pre .1)
 
 child-returns-2 : (t : ℕ) → child-lts.Need-returns-2 (child-claims t) (child-at t) child.Post
-child-returns-2 t c = T-positive _ _ _ _ _ _ _ _ _ _ _ (ap treeOf (c .before .before .enum-told .given .1)) (c .before .if1 .left) (c .t-node .ensures)
+child-returns-2 t c =
+    T-positive _ _ _ _ _ _ _ _ _ _ _ (ap treeOf (c .before .before .enum-told .given .1)) (c .before .if1 .left) (c .t-node .ensures)
 
 child-enum-told-2 : (t : ℕ) → child-lts.Need-enum-told-2 (child-claims t) (child-at t) child.Post
 child-enum-told-2 t c = search needs
 
 child-t-node-requires-2 : (t : ℕ) → child-lts.Need-t-node-requires-2 (child-claims t) (child-at t) child.Post
-child-t-node-requires-2 t c κs = (TU-t-falls _ _ _ _ (c .before .before .before .before .before .before .pre .0) (ap treeOf (c .before .enum-told2 .given .1)), c .before .before .before .before .before .before .pre .1)
+child-t-node-requires-2 t c κs =
+    let start = c .before .before .before .before .before .before in
+    (TU-t-falls _ _ _ _ (start .pre .0) (ap treeOf (c .before .enum-told2 .given .1)), start .pre .1)
 
 child-returns-3 : (t : ℕ) → child-lts.Need-returns-3 (child-claims t) (child-at t) child.Post
-child-returns-3 t c = TU-default _ _ _ _ _ _ _ _ _ _ _ (ap treeOf (c .before .before .enum-told2 .given .1)) (c .before .if2 .taken) (c .t-node2 .ensures)
+child-returns-3 t c =
+    TU-default _ _ _ _ _ _ _ _ _ _ _ (ap treeOf (c .before .before .enum-told2 .given .1)) (c .before .if2 .taken) (c .t-node2 .ensures)
 
 child-tu-node-requires-2 : (t : ℕ) → child-lts.Need-tu-node-requires-2 (child-claims t) (child-at t) child.Post
-child-tu-node-requires-2 t c κs = (TU-tu-falls _ _ _ _ (c .before .before .before .before .before .before .pre .0) (ap treeOf (c .before .enum-told2 .given .1)), c .before .before .before .before .before .before .pre .1)
+child-tu-node-requires-2 t c κs =
+    let start = c .before .before .before .before .before .before in
+    (TU-tu-falls _ _ _ _ (start .pre .0) (ap treeOf (c .before .enum-told2 .given .1)), start .pre .1)
 
 child-returns-4 : (t : ℕ) → child-lts.Need-returns-4 (child-claims t) (child-at t) child.Post
-child-returns-4 t c = TU-positive _ _ _ _ _ _ _ _ _ _ _ (ap treeOf (c .before .before .enum-told2 .given .1)) (c .before .if2 .left) (c .tu-node2 .ensures)
+child-returns-4 t c =
+    TU-positive _ _ _ _ _ _ _ _ _ _ _ (ap treeOf (c .before .before .enum-told2 .given .1)) (c .before .if2 .left) (c .tu-node2 .ensures)
 
 abbrev some-rule-Inv-loop : some-rule-lts.InvT-loop
-some-rule-Inv-loop heads starts entries count facts kind a path above r₀ r = RulesLeft (ruleAt heads starts entries) (childIn (programIn heads starts entries count (facts .words)) (treeOf kind) (setOf (path .words)) (setOf (above .words))) a count r
+some-rule-Inv-loop heads starts entries count facts kind a path above r₀ r =
+    RulesLeft (ruleAt heads starts entries) (childIn (programIn heads starts entries count (facts .words)) (treeOf kind) (setOf (path .words)) (setOf (above .words))) a count r
 
 abbrev some-rule-μ-loop : some-rule-lts.MeasureT-loop
 some-rule-μ-loop heads starts entries count facts kind a path above r₀ r = count - r
@@ -205,7 +252,8 @@ some-rule-μ-loop heads starts entries count facts kind a path above r₀ r = co
 abbrev some-rule-claims : ℕ → some-rule-lts.Claims
 some-rule-claims t = (wide-reads.Asked, wide-reads.Learnt, all-children-below t, all-children.Post)
 
-some-rule-loop-holds : (t : ℕ) → some-rule-lts.Need-loop-holds (some-rule-claims t) (some-rule-at t) some-rule.Post some-rule-Inv-loop some-rule-μ-loop
+some-rule-loop-holds : (t : ℕ)
+    → some-rule-lts.Need-loop-holds (some-rule-claims t) (some-rule-at t) some-rule.Post some-rule-Inv-loop some-rule-μ-loop
 some-rule-loop-holds t c = rules-first
 
 some-rule-add-r : (t : ℕ) → some-rule-lts.Need-add-r (some-rule-claims t) (some-rule-at t) some-rule.Post some-rule-Inv-loop some-rule-μ-loop
@@ -214,35 +262,53 @@ some-rule-add-r t c = search needs
 some-rule-mul-wide : (t : ℕ) → some-rule-lts.Need-mul-wide (some-rule-claims t) (some-rule-at t) some-rule.Post some-rule-Inv-loop some-rule-μ-loop
 some-rule-mul-wide t c = search needs
 
-some-rule-shared-slice-read-wide : (t : ℕ) → some-rule-lts.Need-shared-slice-read-wide (some-rule-claims t) (some-rule-at t) some-rule.Post some-rule-Inv-loop some-rule-μ-loop
+some-rule-shared-slice-read-wide : (t : ℕ)
+    → some-rule-lts.Need-shared-slice-read-wide (some-rule-claims t) (some-rule-at t) some-rule.Post some-rule-Inv-loop some-rule-μ-loop
 some-rule-shared-slice-read-wide t c = search needs
 
-some-rule-wide-requires : (t : ℕ) → some-rule-lts.Need-wide-requires (some-rule-claims t) (some-rule-at t) some-rule.Post some-rule-Inv-loop some-rule-μ-loop
+some-rule-wide-requires : (t : ℕ)
+    → some-rule-lts.Need-wide-requires (some-rule-claims t) (some-rule-at t) some-rule.Post some-rule-Inv-loop some-rule-μ-loop
 some-rule-wide-requires t c κs = search needs
 
 some-rule-loop-less : (t : ℕ) → some-rule-lts.Need-loop-less (some-rule-claims t) (some-rule-at t) some-rule.Post some-rule-Inv-loop some-rule-μ-loop
 some-rule-loop-less t c = search needs
 
-some-rule-loop-again : (t : ℕ) → some-rule-lts.Need-loop-again (some-rule-claims t) (some-rule-at t) some-rule.Post some-rule-Inv-loop some-rule-μ-loop
-some-rule-loop-again t c = rules-other (c .before .before .before .loop-test .taken) (λ e. c .if1 .taken (rw (c .before .wide .ensures) e)) (c .before .before .before .before .loop .inv)
+some-rule-loop-again : (t : ℕ)
+    → some-rule-lts.Need-loop-again (some-rule-claims t) (some-rule-at t) some-rule.Post some-rule-Inv-loop some-rule-μ-loop
+some-rule-loop-again t c =
+    rules-other (c .before .before .before .loop-test .taken) (λ e. c .if1 .taken (rw (c .before .wide .ensures) e)) (c .before .before .before .before .loop .inv)
 
-some-rule-all-children-requires : (t : ℕ) → some-rule-lts.Need-all-children-requires (some-rule-claims t) (some-rule-at t) some-rule.Post some-rule-Inv-loop some-rule-μ-loop
-some-rule-all-children-requires t c κs = (omega (arith, c .before .before .before .before .before .before .before .before .pre .0), (c .before .before .before .before .before .before .before .before .pre .1, c .before .before .before .loop-test .taken))
+some-rule-all-children-requires : (t : ℕ)
+    → some-rule-lts.Need-all-children-requires (some-rule-claims t) (some-rule-at t) some-rule.Post some-rule-Inv-loop some-rule-μ-loop
+some-rule-all-children-requires t c κs =
+    let start = c .before .before .before .before .before .before .before .before in
+    (omega (arith, start .pre .0), (start .pre .1, c .before .before .before .loop-test .taken))
 
 some-rule-returns : (t : ℕ) → some-rule-lts.Need-returns (some-rule-claims t) (some-rule-at t) some-rule.Post some-rule-Inv-loop some-rule-μ-loop
-some-rule-returns t c = rules-hold (c .before .before .before .before .before .loop-test .taken) (rw (c .before .before .before .wide .ensures) at (c .before .before .if1 .left)) (sym (c .if2 .taken) ∙ c .before .all-children .ensures) (c .before .before .before .before .before .before .loop .inv)
+some-rule-returns t c =
+    rules-hold (c .before .before .before .before .before .loop-test .taken) (rw (c .before .before .before .wide .ensures) at (c .before .before .if1 .left)) (sym (c .if2 .taken) ∙ c .before .all-children .ensures)
+    (c .before .before .before .before .before .before .loop .inv)
 
-some-rule-loop-less-2 : (t : ℕ) → some-rule-lts.Need-loop-less-2 (some-rule-claims t) (some-rule-at t) some-rule.Post some-rule-Inv-loop some-rule-μ-loop
+some-rule-loop-less-2 : (t : ℕ)
+    → some-rule-lts.Need-loop-less-2 (some-rule-claims t) (some-rule-at t) some-rule.Post some-rule-Inv-loop some-rule-μ-loop
 some-rule-loop-less-2 t c = search needs
 
-some-rule-loop-again-2 : (t : ℕ) → some-rule-lts.Need-loop-again-2 (some-rule-claims t) (some-rule-at t) some-rule.Post some-rule-Inv-loop some-rule-μ-loop
-some-rule-loop-again-2 t c = rules-fail (c .before .before .before .before .before .loop-test .taken) (sym (c .if2 .left) ∙ c .before .all-children .ensures) (c .before .before .before .before .before .before .loop .inv)
+some-rule-loop-again-2 : (t : ℕ)
+    → some-rule-lts.Need-loop-again-2 (some-rule-claims t) (some-rule-at t) some-rule.Post some-rule-Inv-loop some-rule-μ-loop
+some-rule-loop-again-2 t c =
+    rules-fail (c .before .before .before .before .before .loop-test .taken) (sym (c .if2 .left) ∙ c .before .all-children .ensures) (c .before .before .before .before .before .before .loop .inv)
 
 some-rule-returns-2 : (t : ℕ) → some-rule-lts.Need-returns-2 (some-rule-claims t) (some-rule-at t) some-rule.Post some-rule-Inv-loop some-rule-μ-loop
 some-rule-returns-2 t c = rules-over (c .loop-test .left) (c .before .loop .inv)
 
 abbrev t-node-claims : ℕ → t-node-lts.Claims
-t-node-claims t = (contains-reads.Asked, contains-reads.Learnt, insert-reads.Asked, insert-reads.Learnt, empty-reads.Asked, empty-reads.Learnt, some-rule-below t, some-rule.Post)
+t-node-claims t =
+    (contains-reads.Asked, contains-reads.Learnt, insert-reads.Asked, insert-reads.Learnt, empty-reads.Asked, empty-reads.Learnt, some-rule-below t, some-rule.Post)
+
+-- past the first test the literal is no ancestor
+t-node-new : (t : ℕ) (q : t-node-lts.Else1 (t-node-claims t) (t-node-at t) t-node.Post)
+    → false ≡ setOf (q .before .before .before .before .before .args .above .words) (q .before .before .before .before .before .args .a)
+t-node-new t q = sym (q .if1 .left) ∙ q .before .contains .ensures
 
 t-node-contains-requires : (t : ℕ) → t-node-lts.Need-contains-requires (t-node-claims t) (t-node-at t) t-node.Post
 t-node-contains-requires t c κs = search needs
@@ -254,7 +320,9 @@ t-node-contains-requires-2 : (t : ℕ) → t-node-lts.Need-contains-requires-2 (
 t-node-contains-requires-2 t c κs = search needs
 
 t-node-returns-2 : (t : ℕ) → t-node-lts.Need-returns-2 (t-node-claims t) (t-node-at t) t-node.Post
-t-node-returns-2 t c = t-fact _ _ _ _ _ _ _ (c .before .before .before .before .before .before .before .pre .1 .0 .facts-room) (sym (c .before .before .if1 .left) ∙ c .before .before .before .contains .ensures) (sym (c .if2 .taken) ∙ c .before .contains2 .ensures)
+t-node-returns-2 t c =
+    let start = c .before .before .before .before .before .before .before in
+    t-fact _ _ _ _ _ _ _ (start .pre .1 .0 .facts-room) (t-node-new t (c .before .before)) (sym (c .if2 .taken) ∙ c .before .contains2 .ensures)
 
 t-node-insert-requires : (t : ℕ) → t-node-lts.Need-insert-requires (t-node-claims t) (t-node-at t) t-node.Post
 t-node-insert-requires t c κs = search needs
@@ -263,13 +331,24 @@ t-node-empty-requires : (t : ℕ) → t-node-lts.Need-empty-requires (t-node-cla
 t-node-empty-requires t c κs = search needs
 
 t-node-some-rule-requires : (t : ℕ) → t-node-lts.Need-some-rule-requires (t-node-claims t) (t-node-at t) t-node.Post
-t-node-some-rule-requires t c κs = (t-falls _ (c .before .before .before .before .before .before .before .before .before .pre .1 .1) _ _ (c .before .insert .ensures) (sym (c .before .before .before .before .if1 .left) ∙ c .before .before .before .before .before .contains .ensures) _ (c .before .before .before .before .before .before .before .before .before .pre .0) _, c .before .before .before .before .before .before .before .before .before .pre .1 .0)
+t-node-some-rule-requires t c κs =
+    let start = c .before .before .before .before .before .before .before .before .before in
+    (t-falls _ (start .pre .1 .1) _ _ (c .before .insert .ensures) (t-node-new t (c .before .before .before .before)) _ (start .pre .0) _, start .pre .1 .0)
 
 t-node-returns-3 : (t : ℕ) → t-node-lts.Need-returns-3 (t-node-claims t) (t-node-at t) t-node.Post
-t-node-returns-3 t c = c .some-rule .ensures ∙ t-rules _ _ _ _ _ _ _ (c .before .before .before .before .before .before .before .before .before .before .pre .1 .0 .facts-room) (c .before .before .before .before .before .before .before .before .before .before .pre .1 .1) (sym (c .before .before .before .before .before .if1 .left) ∙ c .before .before .before .before .before .before .contains .ensures) (sym (c .before .before .before .if2 .left) ∙ c .before .before .before .before .contains2 .ensures) _ _ (c .before .before .insert .ensures)
+t-node-returns-3 t c =
+    let start = c .before .before .before .before .before .before .before .before .before .before in
+    c .some-rule .ensures ∙ t-rules _ _ _ _ _ _ _ (start .pre .1 .0 .facts-room) (start .pre .1 .1) (t-node-new t (c .before .before .before .before .before))
+    (sym (c .before .before .before .if2 .left) ∙ c .before .before .before .before .contains2 .ensures) _ _ (c .before .before .insert .ensures)
 
 abbrev tu-node-claims : ℕ → tu-node-lts.Claims
-tu-node-claims t = (contains-reads.Asked, contains-reads.Learnt, other-reads.Asked, other-reads.Learnt, t-node-below t, t-node.Post, insert-reads.Asked, insert-reads.Learnt, some-rule-below t, some-rule.Post)
+tu-node-claims t =
+    (contains-reads.Asked, contains-reads.Learnt, other-reads.Asked, other-reads.Learnt, t-node-below t, t-node.Post, insert-reads.Asked, insert-reads.Learnt, some-rule-below t, some-rule.Post)
+
+-- past the first test the literal is not on the path
+tu-node-new : (t : ℕ) (q : tu-node-lts.Else1 (tu-node-claims t) (tu-node-at t) tu-node.Post)
+    → false ≡ setOf (q .before .before .before .before .before .args .path .words) (q .before .before .before .before .before .args .a)
+tu-node-new t q = sym (q .if1 .left) ∙ q .before .contains .ensures
 
 tu-node-contains-requires : (t : ℕ) → tu-node-lts.Need-contains-requires (tu-node-claims t) (tu-node-at t) tu-node.Post
 tu-node-contains-requires t c κs = search needs
@@ -281,25 +360,37 @@ tu-node-other-requires : (t : ℕ) → tu-node-lts.Need-other-requires (tu-node-
 tu-node-other-requires t c κs = search needs
 
 tu-node-t-node-requires : (t : ℕ) → tu-node-lts.Need-t-node-requires (tu-node-claims t) (tu-node-at t) tu-node.Post
-tu-node-t-node-requires t c κs = (complement-falls _ _ _ (c .before .before .before .before .before .before .pre .0), (c .before .before .before .before .before .before .pre .1 .0, c .other .ensures .1))
+tu-node-t-node-requires t c κs =
+    let start = c .before .before .before .before .before .before in
+    (complement-falls _ _ _ (start .pre .0), (start .pre .1 .0, c .other .ensures .1))
 
 tu-node-contains-requires-2 : (t : ℕ) → tu-node-lts.Need-contains-requires-2 (tu-node-claims t) (tu-node-at t) tu-node.Post
 tu-node-contains-requires-2 t c κs = search needs
 
 tu-node-returns-2 : (t : ℕ) → tu-node-lts.Need-returns-2 (tu-node-claims t) (tu-node-at t) tu-node.Post
-tu-node-returns-2 t c = tu-fact _ _ _ _ _ _ _ _ _ (c .before .before .before .before .other .ensures .0) (c .before .before .before .before .before .before .before .before .before .before .pre .1 .0 .facts-room) (sym (c .before .before .before .before .before .if1 .left) ∙ c .before .before .before .before .before .before .contains .ensures) (sym (not-true _ (c .before .before .if2 .taken)) ∙ c .before .before .before .t-node .ensures) (sym (c .if3 .taken) ∙ c .before .contains2 .ensures)
+tu-node-returns-2 t c =
+    let start = c .before .before .before .before .before .before .before .before .before .before in
+    tu-fact _ _ _ _ _ _ _ _ _ (c .before .before .before .before .other .ensures .0) (start .pre .1 .0 .facts-room) (tu-node-new t (c .before .before .before .before .before))
+    (sym (not-true _ (c .before .before .if2 .taken)) ∙ c .before .before .before .t-node .ensures) (sym (c .if3 .taken) ∙ c .before .contains2 .ensures)
 
 tu-node-insert-requires : (t : ℕ) → tu-node-lts.Need-insert-requires (tu-node-claims t) (tu-node-at t) tu-node.Post
 tu-node-insert-requires t c κs = search needs
 
 tu-node-some-rule-requires : (t : ℕ) → tu-node-lts.Need-some-rule-requires (tu-node-claims t) (tu-node-at t) tu-node.Post
-tu-node-some-rule-requires t c κs = (tu-falls _ (c .before .before .before .before .before .before .before .before .before .before .before .pre .1 .1) _ _ (c .insert .ensures) (sym (c .before .before .before .before .before .before .if1 .left) ∙ c .before .before .before .before .before .before .before .contains .ensures) _ _ (c .before .before .before .before .before .before .before .before .before .before .before .pre .0), c .before .before .before .before .before .before .before .before .before .before .before .pre .1 .0)
+tu-node-some-rule-requires t c κs =
+    let start = c .before .before .before .before .before .before .before .before .before .before .before in
+    (tu-falls _ (start .pre .1 .1) _ _ (c .insert .ensures) (tu-node-new t (c .before .before .before .before .before .before)) _ _ (start .pre .0), start .pre .1 .0)
 
 tu-node-returns-3 : (t : ℕ) → tu-node-lts.Need-returns-3 (tu-node-claims t) (tu-node-at t) tu-node.Post
-tu-node-returns-3 t c = c .some-rule .ensures ∙ tu-rules _ _ _ _ _ _ _ _ _ (c .before .before .before .before .before .before .other .ensures .0) (c .before .before .before .before .before .before .before .before .before .before .before .before .pre .1 .0 .facts-room) (c .before .before .before .before .before .before .before .before .before .before .before .before .pre .1 .1) (sym (c .before .before .before .before .before .before .before .if1 .left) ∙ c .before .before .before .before .before .before .before .before .contains .ensures) (sym (not-true _ (c .before .before .before .before .if2 .taken)) ∙ c .before .before .before .before .before .t-node .ensures) (sym (c .before .before .if3 .left) ∙ c .before .before .before .contains2 .ensures) _ (c .before .insert .ensures)
+tu-node-returns-3 t c =
+    let start = c .before .before .before .before .before .before .before .before .before .before .before .before in
+    c .some-rule .ensures ∙ tu-rules _ _ _ _ _ _ _ _ _ (c .before .before .before .before .before .before .other .ensures .0) (start .pre .1 .0 .facts-room) (start .pre .1 .1) (tu-node-new t (c .before .before .before .before .before .before .before))
+    (sym (not-true _ (c .before .before .before .before .if2 .taken)) ∙ c .before .before .before .before .before .t-node .ensures) (sym (c .before .before .if3 .left) ∙ c .before .before .before .contains2 .ensures) _
+    (c .before .insert .ensures)
 
 tu-node-returns-4 : (t : ℕ) → tu-node-lts.Need-returns-4 (tu-node-claims t) (tu-node-at t) tu-node.Post
-tu-node-returns-4 t c = tu-blocked _ _ _ _ _ _ _ _ _ (c .before .before .other .ensures .0) (sym (not-false _ (c .if2 .left)) ∙ c .before .t-node .ensures)
+tu-node-returns-4 t c =
+    tu-blocked _ _ _ _ _ _ _ _ _ (c .before .before .other .ensures .0) (sym (not-false _ (c .if2 .left)) ∙ c .before .t-node .ensures)
 
 pub +all-children+child+some-rule+t-node+tu-node-spec : {M : Type 1} → statement M
 +all-children+child+some-rule+t-node+tu-node-spec =
