@@ -41,9 +41,7 @@ pub fn search(book: Book, facts: LitSet, literal: usize, default: bool, tree: Tr
     holds
 }
 
-// The tables of a book are lent, and not copied, from call to call.
-
-// A child of a node, or the question: the node that it opens.
+// A child of a node, or the question: the node that it opens. From here on the tables of the book are lent, and not copied.
 fn child<'a>(
     heads: &'a [u16],
     starts: &'a [u16],
@@ -57,22 +55,16 @@ fn child<'a>(
     above: LitSet,
 ) -> bool
     requires { ⌜ Lent (now heads) (now starts) count (facts .words) × (b < capacity) ⌝ }
-    ensures { λ r. ⌜ r ≡ childIn (programIn (now (heads .entry)) (now (starts .entry)) (now (entries .entry)) count (facts .words)) (treeOf kind) (setOf (path .words)) (setOf (above .words)) (questionOf b default) ⌝ }
+    ensures { λ r. ⌜ r ≡ childIn
+        (programIn (now (heads .entry)) (now (starts .entry)) (now (entries .entry)) count (facts .words))
+        (treeOf kind) (setOf (path .words)) (setOf (above .words)) (questionOf b default) ⌝ }
 {
     match kind {
         Tree::T => {
             if default {
                 // The second way, a T-tree for the complement, is left out: it follows from the first (`first-way`).
-                return !tu_node(
-                    heads,
-                    starts,
-                    entries,
-                    count,
-                    facts,
-                    b,
-                    litset::empty(),
-                    above,
-                );
+                let none = litset::empty();
+                return !tu_node(heads, starts, entries, count, facts, b, none, above);
             }
             return t_node(heads, starts, entries, count, facts, b, above);
         }
@@ -96,7 +88,9 @@ fn t_node<'a>(
     above: LitSet,
 ) -> bool
     requires { ⌜ Lent (now heads) (now starts) count (facts .words) × (a < capacity) ⌝ }
-    ensures { λ r. ⌜ r ≡ tree (programIn (now (heads .entry)) (now (starts .entry)) (now (entries .entry)) count (facts .words)) T ∅ (setOf (above .words)) a ⌝ }
+    ensures { λ r. ⌜ r ≡ tree
+        (programIn (now (heads .entry)) (now (starts .entry)) (now (entries .entry)) count (facts .words))
+        T ∅ (setOf (above .words)) a ⌝ }
 {
     if litset::contains(above, a) {
         return false;
@@ -131,7 +125,9 @@ fn tu_node<'a>(
     above: LitSet,
 ) -> bool
     requires { ⌜ Lent (now heads) (now starts) count (facts .words) × (a < capacity) ⌝ }
-    ensures { λ r. ⌜ r ≡ tree (programIn (now (heads .entry)) (now (starts .entry)) (now (entries .entry)) count (facts .words)) TU (setOf (path .words)) (setOf (above .words)) a ⌝ }
+    ensures { λ r. ⌜ r ≡ tree
+        (programIn (now (heads .entry)) (now (starts .entry)) (now (entries .entry)) count (facts .words))
+        TU (setOf (path .words)) (setOf (above .words)) a ⌝ }
 {
     if litset::contains(path, a) {
         return false;
@@ -170,7 +166,9 @@ fn some_rule<'a>(
     above: LitSet,
 ) -> bool
     requires { ⌜ Lent (now heads) (now starts) count (facts .words) ⌝ }
-    ensures { λ r. ⌜ r ≡ supported (rulesIn (now (heads .entry)) (now (starts .entry)) (now (entries .entry)) count) (childIn (programIn (now (heads .entry)) (now (starts .entry)) (now (entries .entry)) count (facts .words)) (treeOf kind) (setOf (path .words)) (setOf (above .words))) a ⌝ }
+    ensures { λ r. ⌜ r ≡ supported (rulesIn (now (heads .entry)) (now (starts .entry)) (now (entries .entry)) count) (childIn
+        (programIn (now (heads .entry)) (now (starts .entry)) (now (entries .entry)) count (facts .words))
+        (treeOf kind) (setOf (path .words)) (setOf (above .words))) a ⌝ }
 {
     let mut r: usize = 0;
     while r < count {
@@ -199,7 +197,9 @@ fn all_children<'a>(
     above: LitSet,
 ) -> bool
     requires { ⌜ Lent (now heads) (now starts) count (facts .words) × (i < count) ⌝ }
-    ensures { λ r. ⌜ r ≡ every (childIn (programIn (now (heads .entry)) (now (starts .entry)) (now (entries .entry)) count (facts .words)) (treeOf kind) (setOf (path .words)) (setOf (above .words))) (ruleAt (now (heads .entry)) (now (starts .entry)) (now (entries .entry)) i .body) ⌝ }
+    ensures { λ r. ⌜ r ≡ every (childIn
+        (programIn (now (heads .entry)) (now (starts .entry)) (now (entries .entry)) count (facts .words))
+        (treeOf kind) (setOf (path .words)) (setOf (above .words))) (ruleAt (now (heads .entry)) (now (starts .entry)) (now (entries .entry)) i .body) ⌝ }
 {
     let end = least(wide(starts[i + 1]), entries.len());
     let mut j = wide(starts[i]);
