@@ -305,16 +305,16 @@ abbrev t-node-claims : ℕ → t-node-lts.Claims
 t-node-claims t =
     (contains-reads.Asked, contains-reads.Learnt, insert-reads.Asked, insert-reads.Learnt, empty-reads.Asked, empty-reads.Learnt, some-rule-below t, some-rule.Post)
 
--- past the first test the literal is no ancestor
-t-node-new : (t : ℕ) (q : t-node-lts.Else1 (t-node-claims t) (t-node-at t) t-node.Post)
-    → false ≡ setOf (q .before .before .before .before .before .args .above .words) (q .before .before .before .before .before .args .a)
-t-node-new t q = sym (q .if1 .left) ∙ q .before .contains .ensures
-
 t-node-contains-requires : (t : ℕ) → t-node-lts.Need-contains-requires (t-node-claims t) (t-node-at t) t-node.Post
 t-node-contains-requires t c κs = search needs
 
 t-node-returns : (t : ℕ) → t-node-lts.Need-returns (t-node-claims t) (t-node-at t) t-node.Post
 t-node-returns t c = t-pruned _ _ _ _ _ _ _ (sym (c .if1 .taken) ∙ c .before .contains .ensures)
+
+-- past the first test the literal is no ancestor
+t-node-new : (t : ℕ) (q : t-node-lts.Else1 (t-node-claims t) (t-node-at t) t-node.Post)
+    → false ≡ setOf (q .before .before .before .before .before .args .above .words) (q .before .before .before .before .before .args .a)
+t-node-new t q = sym (q .if1 .left) ∙ q .before .contains .ensures
 
 t-node-contains-requires-2 : (t : ℕ) → t-node-lts.Need-contains-requires-2 (t-node-claims t) (t-node-at t) t-node.Post
 t-node-contains-requires-2 t c κs = search needs
@@ -345,16 +345,16 @@ abbrev tu-node-claims : ℕ → tu-node-lts.Claims
 tu-node-claims t =
     (contains-reads.Asked, contains-reads.Learnt, other-reads.Asked, other-reads.Learnt, t-node-below t, t-node.Post, insert-reads.Asked, insert-reads.Learnt, some-rule-below t, some-rule.Post)
 
--- past the first test the literal is not on the path
-tu-node-new : (t : ℕ) (q : tu-node-lts.Else1 (tu-node-claims t) (tu-node-at t) tu-node.Post)
-    → false ≡ setOf (q .before .before .before .before .before .args .path .words) (q .before .before .before .before .before .args .a)
-tu-node-new t q = sym (q .if1 .left) ∙ q .before .contains .ensures
-
 tu-node-contains-requires : (t : ℕ) → tu-node-lts.Need-contains-requires (tu-node-claims t) (tu-node-at t) tu-node.Post
 tu-node-contains-requires t c κs = search needs
 
 tu-node-returns : (t : ℕ) → tu-node-lts.Need-returns (tu-node-claims t) (tu-node-at t) tu-node.Post
 tu-node-returns t c = tu-pruned _ _ _ _ _ _ _ _ (sym (c .if1 .taken) ∙ c .before .contains .ensures)
+
+-- past the first test the literal is not on the path
+tu-node-new : (t : ℕ) (q : tu-node-lts.Else1 (tu-node-claims t) (tu-node-at t) tu-node.Post)
+    → false ≡ setOf (q .before .before .before .before .before .args .path .words) (q .before .before .before .before .before .args .a)
+tu-node-new t q = sym (q .if1 .left) ∙ q .before .contains .ensures
 
 tu-node-other-requires : (t : ℕ) → tu-node-lts.Need-other-requires (tu-node-claims t) (tu-node-at t) tu-node.Post
 tu-node-other-requires t c κs = search needs
