@@ -75,6 +75,10 @@ module _ (f : ℕ → ℕ → ℕ) (g : Bool → Bool → Bool) (at-bit : (a b j
       go A (yes e) = ap (setOf (change f ws l)) e ∙ changed ∙ sym here ∙ ap S (sym e)
       go A (no ne) = unchanged A ne ∙ sym (there A ne)
 
+pub with-room : (l : ℕ) (S : Set) → l < capacity → with l S ≡ add l S
+unfolding with
+with-room l S h = rw (lt-ltb l capacity h) refl
+
 module _ (ws : List ℕ) (l : ℕ) where
   add-here : (S : Set) → add l S l ≡ true
   add-here S = ap (λ (b : Bool). b || S l) (eq-eqb l l refl)

@@ -137,3 +137,42 @@ module _ (P : Program) where
       go true true f = absurd (clash refl (f refl))
       go true false f = refl
       go false t f = refl
+
+  -- ---- in a T-tree local ancestors and global T-ancestors prune alike, so one set serves for both
+
+  abbrev merged : Search
+  merged T L G = tree P T ∅ (L ∪ G)
+  merged TU L G = tree P TU L G
+
+  merged-child : (L G : Set) (e : Entry) → child merged T L G e ≡ child merged T ∅ (L ∪ G) e
+  merged-child L G (positive B) = refl
+  merged-child L G (default C) = refl
+
+  merged-node : (L G : Set) → node P merged T L G ≡ node P merged T ∅ (L ∪ G)
+  merged-node L G = fun-ext (λ A. ap (λ (f : Entry → Bool). not (L A || G A) && supported P f A) (fun-ext (same A)))
+    where
+      same : (A : ℕ) (e : Entry) → child merged T (add A L) G e ≡ child merged T (add A ∅) (L ∪ G) e
+      same A e =
+          merged-child (add A L) G e ∙ ap (λ (S : Set). child merged T ∅ S e) (add-∪ A L G ∙ sym (add-∪ A ∅ (L ∪ G)))
+          ∙ sym (merged-child (add A ∅) (L ∪ G) e)
+
+  tree-merged : (n : ℕ) → Below n (tree P) merged
+  tree-merged zero k L G l = absurd (omega arith)
+  tree-merged (suc n) TU L G l = refl
+  tree-merged (suc n) T L G l =
+      let below : Below n (tree P) merged = tree-merged n in
+      let here : (K H : Set) → size T K H ≡ size T L G → tree P T K H ≡ node P merged T K H =
+      λ K H e. tree-unfolds T K H ∙ node-local (tree P) merged T K H (λ j S U i. below j S U (omega arith)) in
+      here L G refl ∙ merged-node L G ∙ sym (here ∅ (L ∪ G) refl)
+
+  pub one-set : (L G : Set) → tree P T L G ≡ tree P T ∅ (L ∪ G)
+  one-set L G = tree-merged (suc (size T L G)) T L G (omega arith)
+
+  -- the unfolding equation of a T-node with one set
+  pub one-set-unfolds : (X : Set) (A : ℕ) → tree P T ∅ X A ≡ (not (X A) && supported P (child (tree P) T ∅ (add A X)) A)
+  one-set-unfolds X A =
+      ap (λ (S : Set). S A) (tree-unfolds T ∅ X) ∙ ap (λ (f : Entry → Bool). not (X A) && supported P f A) (fun-ext same)
+    where
+      same : (e : Entry) → child (tree P) T (add A ∅) X e ≡ child (tree P) T ∅ (add A X) e
+      same (positive B) = ap (λ (S : Set). S B) (one-set (add A ∅) X) ∙ ap (λ (S : Set). tree P T ∅ S B) (add-∪ A ∅ X)
+      same (default C) = ap (λ (S : Set). not (tree P TU ∅ S C) || tree P T ∅ S (compl C)) (add-∪ A ∅ X)
