@@ -5,16 +5,16 @@ use mathlib.Core.List.{List, [], _∷_, _++_, map, append-assoc, List·Memᴰ·h
 use Prim.Native.Nat.{ℕ, zero, suc, _+_, _-_, _*_, _/_, _%_, _≤_, _<_}
 use native.Mathlib.Omega.{arith}
 use native.Mathlib.Nat.{mod-eq-of-lt, zero-add, suc-add, add-suc, add-zero, sub-zero}
-use native.Mathlib.Decide.{decLt}
 use native.Mathlib.Numerals.{add-one}
 use lib.ListN.{length, getD, take, drop, replicate, length-map, List·getD-append, List·getD-map}
 use lib.Seq.{take-append-seam, drop-append-add}
-use borrow.Author.Tests.{lt-ltb, le-ltb, eq-eqb, ne-eqb}
+use borrow.Author.Tests.{eq-eqb, ne-eqb}
 use Rattle.wfsx.specs.Sets.{_isIn_}
 use Rattle.wfsx.specs.Program.{Entry, positive, default, Rule}
 use Rattle.litset.specs.Words.{capacity}
 use Rattle.book.specs.Limits.{maxNames, maxRules, maxLength}
 use Rattle.book.specs.Book.{rows, clamp, nameAt, namesIn, namesOf, literalOf, entryOf, bodyAt, ruleAt, rulesIn, rulesOf, padded, joined, codeOf, bodyCodes, startsFrom, textTable, lengthTable, headTable, startTable, entryTable, bookOf}
+use Rattle.book.proofs.Counts.{clamp-least}
 use Rattle.book.proofs.Tables.{allCodes, padded-length, starts-length}
 
 -- rows that are the elements of a list
@@ -24,13 +24,6 @@ rows-from f d j [] h = refl
 rows-from f d j (x ∷ xs) h =
     ap₂ (λ y l. y ∷ l) (ap f (sym (add-zero j)) ∙ h 0 (omega arith))
     (rows-from f d (suc j) xs (λ k l. ap f (suc-add j k ∙ sym (add-suc j k)) ∙ h (suc k) (omega arith)))
-
-pub clamp-least : (most n : ℕ) → n ≤ most → clamp most n ≡ n
-clamp-least most n h = go (decLt n most)
-  where
-    go : Dec (n < most) → clamp most n ≡ n
-    go (yes l) = rw (lt-ltb n most l)
-    go (no l) = rw (le-ltb n most (omega arith)) (omega arith)
 
 -- ---- names
 

@@ -3,9 +3,7 @@
 use book::Book;
 use litset::LitSet;
 ghost use mathlib.Core.Path.{_≡_};
-ghost use Prim.Native.Nat.{min};
 ghost use Rattle.wfsx.specs.Sets.{_∖_};
-ghost use Rattle.wfsx.specs.Program.{compl};
 ghost use Rattle.wfsx.specs.Model.{holds, Γ};
 ghost use Rattle.litset.specs.Words.{setOf};
 ghost use Rattle.book.specs.Book.{entryOf, rulesIn, programOf};
@@ -37,31 +35,12 @@ struct Halves {
     nonfalse: LitSet,
 }
 
-fn wide(n: u16) -> usize
-    ensures { λ r. ⌜ r ≡ n ⌝ }
-{
-    n as usize
-}
-
-// The smaller of two.
-fn least(a: usize, b: usize) -> usize
-    ensures { λ r. ⌜ r ≡ min a b ⌝ }
-{
-    if a < b { a } else { b }
-}
-
-fn complement(l: usize) -> usize
-    ensures { λ r. ⌜ r ≡ compl l ⌝ }
-{
-    if l % 2 == 0 { l + 1 } else { l - 1 }
-}
-
 // Whether rules for the literal are passed over: its complement is in s, where that is asked.
 fn is_shut(asks: bool, s: LitSet, l: usize) -> bool
     ensures { λ r. ⌜ r ≡ shut asks (setOf (s .words)) l ⌝ }
 {
     if asks {
-        litset::contains(s, complement(l))
+        litset::contains(s, litset::complement(l))
     } else {
         false
     }
@@ -71,7 +50,7 @@ fn is_shut(asks: bool, s: LitSet, l: usize) -> bool
 fn entry_holds(e: u16, d: LitSet, s: LitSet) -> bool
     ensures { λ r. ⌜ r ≡ holds (setOf (d .words)) (setOf (s .words)) (entryOf e) ⌝ }
 {
-    let n = wide(e);
+    let n = book::wide(e);
     let l = n / 2 % litset::CAPACITY;
     if n % 2 == 0 {
         litset::contains(d, l)
@@ -98,13 +77,13 @@ fn add_heads<'a>(
     let mut y = x;
     let mut r: usize = 0;
     'rules: while r < count {
-        let head = wide(heads[r]) % litset::CAPACITY;
+        let head = book::wide(heads[r]) % litset::CAPACITY;
         if is_shut(asks, s, head) {
             r += 1;
             continue 'rules;
         }
-        let mut j = wide(starts[r]);
-        let to = least(wide(starts[r + 1]), entries.len());
+        let mut j = book::wide(starts[r]);
+        let to = book::least(book::wide(starts[r + 1]), entries.len());
         while j < to {
             if !entry_holds(entries[j], y, s) {
                 r += 1;

@@ -1,8 +1,8 @@
 -- Laws of `setOf`, over a list of words of any length.
 use mathlib.Core.Path.{_≡_, refl, sym, ap, _∙_, fun-ext}
-use mathlib.Core.Bool.{Bool, true, false, not, _&&_, _||_, and-true, or-true, or-false, true≢false}
+use mathlib.Core.Bool.{Bool, true, false, not, _&&_, _||_, and-true, or-true, or-false, true≢false, cond}
 use mathlib.Core.List.{List}
-use Prim.Native.Nat.{ℕ, zero, suc, _+_, _*_, _/_, _%_, _^_, _≤_, _<_}
+use Prim.Native.Nat.{ℕ, zero, suc, _+_, _*_, _/_, _%_, _^_, _≤_, _<_, _-_}
 use native.Mathlib.Omega.{arith}
 use native.Mathlib.Decide.{decLt, ℕ-discrete}
 use lib.Bits.{bitOr}
@@ -13,8 +13,18 @@ use borrow.Author.Count.{below-none, below-more}
 use borrow.Author.Tests.{eq-eqb, ne-eqb, lt-ltb, le-ltb}
 use native.Mathlib.Nat.{le-refl}
 use Rattle.wfsx.specs.Sets.{Set, _∈_, ∅, _∪_, add}
+use Rattle.wfsx.specs.Program.{compl}
 use Rattle.litset.specs.Words.{nWords, capacity, bit, setOf, with, without}
 use Rattle.litset.proofs.Bit.{or-bit, clear, clear-bit, bit-zero, pow-same, pow-other, same-bits}
+
+-- the capacity is even, so the complement of a literal below it is below it
+pub compl-small : (A : ℕ) → A < capacity → compl A < capacity
+unfolding compl
+compl-small A h = go (ℕ-discrete (A % 2) 0)
+  where
+    go : Dec (A % 2 ≡ 0) → cond (eqb (A % 2) 0) (A + 1) (A - 1) < capacity
+    go (yes e) = rw (eq-eqb (A % 2) 0 e) (omega arith)
+    go (no n) = rw (ne-eqb (A % 2) 0 n) (omega arith)
 
 -- ---- past the end, and the empty set
 

@@ -4,6 +4,7 @@ ghost use mathlib.Core.Bool.{true};
 ghost use mathlib.Core.Logic.{_↔_};
 ghost use lib.ListN.{length};
 ghost use Rattle.wfsx.specs.Sets.{∅, _∪_, members};
+ghost use Rattle.wfsx.specs.Program.{compl};
 ghost use Rattle.litset.specs.Words.{capacity, setOf, with, without};
 
 // How many words a set has. `nWords` in specs/Words.antt is the same number.
@@ -15,6 +16,13 @@ pub const CAPACITY: usize = 64 * WORDS;
 #[repr(C)]
 pub struct LitSet {
     pub words: [u64; WORDS],
+}
+
+// The other literal of the same name.
+pub fn complement(l: usize) -> usize
+    ensures { λ r. ⌜ r ≡ compl l ⌝ }
+{
+    if l % 2 == 0 { l + 1 } else { l - 1 }
 }
 
 pub fn empty() -> LitSet

@@ -1,12 +1,11 @@
 -- Laws over the fields of a line: for a loop that has come to the field at place p, which ends at e, and for a field's name looked up.
 use mathlib.Core.Path.{_≡_, refl, sym, ap, _∙_}
 use mathlib.Core.Bool.{Bool, true, false, cond, true≢false}
-use mathlib.Core.List.{List, [], _∷_}
+use mathlib.Core.List.{List}
 use Prim.Native.Nat.{ℕ, zero, suc, _+_, _-_, _*_, _≤_, _<_}
 use native.Mathlib.Omega.{arith}
 use lib.ListN.{length, take, drop}
-use lib.Dec.{eqb, ltb}
-use borrow.Author.Tests.{ltb-true}
+use lib.Dec.{eqb}
 use Rattle.wfsx.specs.Program.{positive, default}
 use Rattle.scan.specs.Text.{isName, lenTo, rest, tildes, minuses, nameOf, formOf}
 use Rattle.scan.specs.declared.Form.{Form}
@@ -14,11 +13,13 @@ use Rattle.scan.specs.declared.Form.the-variants.{Malformed, Literal}
 use Rattle.scan.proofs.Places.{rest-step, rest-none}
 use Rattle.scan.proofs.Bytes.{lead-most}
 use Rattle.book.specs.Limits.{maxNames}
-use Rattle.book.specs.Book.{rows, clamp, nameAt, namesIn, sameName, findFrom, find, codeOf}
+use Rattle.book.specs.Book.{rows, clamp, nameAt, namesIn, find, codeOf}
 use Rattle.book.specs.declared.Found.{Found}
 use Rattle.book.specs.declared.Found.the-variants.{Nothing, At}
+use Rattle.book.proofs.Counts.{clamp-most}
 use Rattle.reader.specs.File.{allFields, isLiteral, declared, isFound, numberIn, literalNumber, entryFrom}
 use Rattle.reader.specs.Steps.{knownBy, knownOf}
+use Rattle.reader.proofs.Within.{found-below}
 use Rattle.reader.specs.declared.Known.{Known}
 use Rattle.reader.specs.declared.Known.the-variants.{Undeclared, Entry}
 
@@ -79,29 +80,13 @@ unfolding rows
 rows-length f k zero = refl
 rows-length f k (suc n) = ap suc (rows-length f (suc k) n)
 
-find-below : (names : List (List ℕ)) (n : List ℕ) (k i : ℕ) → findFrom k n names ≡ At i → i < k + length names
-unfolding findFrom
-find-below [] n k i e = absurd (nothing e)
-  where
-    nothing : Nothing ≡ At i → ⊥
-    nothing q = let z : _≡_ {A = ℕ} 0 1 = cc in omega arith
-find-below (m ∷ names) n k i e = go (sameName m n) refl (find-below names n (suc k) i)
-  where
-    go : (t : Bool) → sameName m n ≡ t → (findFrom (suc k) n names ≡ At i → i < suc k + length names) → i < k + suc (length names)
-    go true h rest = let q : k ≡ i = ap numberIn (sym (ap (λ (x : Bool). cond x (At k) (findFrom (suc k) n names)) h) ∙ e) in omega arith
-    go false h rest = let l = rest (sym (ap (λ (x : Bool). cond x (At k) (findFrom (suc k) n names)) h) ∙ e) in omega arith
-
-clamp-most : (most n : ℕ) → clamp most n ≤ most
-clamp-most most n = go (ltb n most) refl
-  where
-    go : (t : Bool) → ltb n most ≡ t → cond t n most ≤ most
-    go true e = omega (arith, ltb-true n most e)
-    go false e = omega arith
+find-below : (names : List (List ℕ)) (n : List ℕ) (i : ℕ) → find names n ≡ At i → i < length names
+find-below names n i e = omega (arith, found-below 0 n names (ap isFound e), ap numberIn e)
 
 -- a number that a table of names gives lies below the most names
 pub found-small : (text lengths : List ℕ) (count : ℕ) (n : List ℕ) (i : ℕ) → find (namesIn text lengths (clamp maxNames count)) n ≡ At i → i < maxNames
 found-small text lengths count n i e =
-    omega (arith, find-below (namesIn text lengths (clamp maxNames count)) n 0 i e, rows-length (nameAt text lengths) 0 (clamp maxNames count), clamp-most maxNames count)
+    omega (arith, find-below (namesIn text lengths (clamp maxNames count)) n i e, rows-length (nameAt text lengths) 0 (clamp maxNames count), clamp-most maxNames count)
 
 module _ (names : List (List ℕ)) (f : List ℕ) where
   pub known-undeclared : find names (nameOf f) ≡ Nothing → knownOf names f ≡ Undeclared

@@ -14,7 +14,8 @@ use Rattle.scan.specs.Text.{isName, nameOf}
 use Rattle.book.specs.Limits.{maxNames, maxRules, maxEntries, maxLength}
 use Rattle.book.specs.Book.{clamp, namesIn, joined, codeOf, bodyCodes, textTable, lengthTable, startTable}
 use Rattle.book.proofs.Tables.{allCodes, text-more, length-more, head-more, start-more, entry-more}
-use Rattle.book.proofs.Back.{clamp-least, names-back}
+use Rattle.book.proofs.Counts.{clamp-least}
+use Rattle.book.proofs.Back.{names-back}
 use Rattle.reader.specs.File.{bodyLiterals, allFields, isLiteral, hasTilde, declared, _when_else_}
 use Rattle.reader.specs.Steps.{NameTable, RuleTable, nameFault, ruleFault}
 

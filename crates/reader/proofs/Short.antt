@@ -21,7 +21,8 @@ use Rattle.reader.specs.Conditions.{saidBy}
 use Rattle.reader.proofs.Faults.{Passes, line-passes, neither}
 use Rattle.reader.proofs.Lines.{Faultless, file-read}
 use Rattle.reader.proofs.Words.{IsWord, first-is}
-use Rattle.reader.proofs.Within.{Within, within-nothing, within-lines, name-length, lead-small, literals-append}
+use Rattle.scan.proofs.Bytes.{name-fits, lead-most}
+use Rattle.reader.proofs.Within.{Within, within-nothing, within-lines, literals-append}
 
 -- ---- pieces, each with the stop behind it
 
@@ -50,14 +51,14 @@ literal-length : (f : List ℕ) → isLiteral f ≡ true → length f ≤ tildes
 literal-length f e =
     let a = length-drop (minuses f) (drop (tildes f) f) in
     let b = length-drop (tildes f) f in
-    let n = name-length (nameOf f) e .1 in
-    omega (arith, lead-small 45 (drop (tildes f) f))
+    let n = name-fits (nameOf f) e .1 in
+    omega (arith, lead-most 45 (drop (tildes f) f))
 
 literal-short : (f : List ℕ) → isLiteral f ≡ true → length f < 19
-literal-short f e = omega (arith, literal-length f e, lead-small 126 f)
+literal-short f e = omega (arith, literal-length f e, lead-most 126 f)
 
 head-length : (f : List ℕ) → isLiteral f ≡ true → hasTilde f ≡ false → length f ≤ 17
-head-length f e h = let z : tildes f ≡ 0 = none (tildes f) (lead-small 126 f) (eqb-false (tildes f) 1 h) in omega (arith, literal-length f e)
+head-length f e h = let z : tildes f ≡ 0 = none (tildes f) (lead-most 126 f) (eqb-false (tildes f) 1 h) in omega (arith, literal-length f e)
   where
     none : (n : ℕ) → n ≤ 1 → (n ≡ 1 → ⊥) → n ≡ 0
     none zero h f = refl
@@ -82,7 +83,7 @@ module _ (d : Content) (first : List ℕ) where
   unfolding extended wrongFields malformed byteCount weight
   weight-name others e c =
       let one : length others ≡ 1 = eqb-true (length others) 1 (not-false (eqb (length others) 1) (c .right-fields)) in
-      let short = fields-total isName 17 (λ x h. suc-le-suc (name-length x h .1)) others (not-false (allFields isName others) (c .well-formed)) in
+      let short = fields-total isName 17 (λ x h. suc-le-suc (name-fits x h .1)) others (not-false (allFields isName others) (c .well-formed)) in
       omega (arith, ap length e, length-append (d .names) others)
 
   weight-rule : (others : List (List ℕ)) → first ≡ ruleWord → Passes d RuleWord others → weight d + byteCount (first ∷ others) ≤ weight (extended d RuleWord others)

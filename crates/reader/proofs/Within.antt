@@ -11,22 +11,19 @@ use lib.ListN.{length, drop, length-append, length-map}
 use borrow.Author.Tests.{leb-true, leb-false, ltb-false, eqb-true, not-false}
 use Rattle.wfsx.specs.Sets.{_isIn_}
 use Rattle.wfsx.specs.Program.{Entry, positive, default, Rule}
-use Rattle.wfsx.proofs.Sets.{and-l, and-r}
-use Rattle.scan.specs.Text.{fields, allBytes, classOf, isLetter, inName, isName, wordOf, lead, tildes, nameOf}
+use Rattle.wfsx.proofs.Sets.{and-r}
+use Rattle.scan.specs.Text.{fields, isName, wordOf, tildes, nameOf}
 use Rattle.scan.specs.declared.Word.{Word}
 use Rattle.scan.specs.declared.Word.the-variants.{Name, Rule as RuleWord, End, Unknown}
 use Rattle.book.specs.Limits.{maxNames, maxRules, maxEntries}
 use Rattle.book.specs.Book.{sameName, findFrom}
 use Rattle.book.specs.declared.Found.the-variants.{At}
+use Rattle.scan.proofs.Bytes.{lead-most}
+use Rattle.book.proofs.Back.{literalIn}
 use Rattle.reader.specs.File.{Content, nothingYet, bodyLiterals, allFields, isFound, declared, wrongFields, malformed, usesUndeclared, beyondTable, lineFault, numberIn, literalNumber, entryFrom, hasTilde, ruleFrom, extended, withLine, accepted, linesOf, readFile}
 use Rattle.reader.specs.Conditions.{saidBy}
 use Rattle.reader.proofs.Faults.{Passes, line-passes, neither, each-field}
 use Rattle.reader.proofs.Lines.{Faultless, file-read}
-
--- the literal of an entry
-abbrev pub literalIn : Entry → ℕ
-literalIn (positive B) = B
-literalIn (default C) = C
 
 pub record Within (d : Content) : Type 0 where
   pub few-names : length (d .names) ≤ maxNames
@@ -38,21 +35,6 @@ pub record Within (d : Content) : Type 0 where
   pub entries-known : (r : Rule) → r isIn d .rules → (e : Entry) → e isIn r .body → literalIn e < 2 * length (d .names)
 
 -- ---- names, literals and rules one by one
-
-pub name-length : (n : List ℕ) → isName n ≡ true → (1 ≤ length n) × (length n ≤ 16)
-unfolding isName
-name-length [] e = absurd (true≢false (sym e))
-name-length (x ∷ xs) e =
-    let few : length xs ≤ 15 = leb-true (length xs) 15 (and-l (leb (length xs) 15) (isLetter (classOf x) && allBytes (λ b. inName (classOf b)) xs) e) in
-    (omega arith, omega arith)
-
-pub lead-small : (b : ℕ) (s : List ℕ) → lead b s ≤ 1
-lead-small b [] = omega arith
-lead-small b (x ∷ xs) = go (eqb x b)
-  where
-    go : (t : Bool) → cond t 1 0 ≤ 1
-    go true = omega arith
-    go false = omega arith
 
 -- a name that is found has a number below the count of names
 pub found-below : (k : ℕ) (n : List ℕ) (names : List (List ℕ)) → isFound (findFrom k n names) ≡ true → numberIn (findFrom k n names) < k + length names
@@ -67,7 +49,7 @@ found-below k n (m ∷ ms) e = go (sameName m n) (found-below (suc k) n ms) e
 
 pub literal-below : (names : List (List ℕ)) (f : List ℕ) → declared names (nameOf f) ≡ true → literalNumber names f < 2 * length names
 unfolding literalNumber
-literal-below names f e = omega (arith, found-below 0 (nameOf f) names e, lead-small 45 (drop (tildes f) f))
+literal-below names f e = omega (arith, found-below 0 (nameOf f) names e, lead-most 45 (drop (tildes f) f))
 
 entry-literal : (names : List (List ℕ)) (f : List ℕ) → literalIn (entryFrom names f) ≡ literalNumber names f
 unfolding entryFrom

@@ -2,7 +2,6 @@
 ghost use mathlib.Core.Path.{_≡_};
 ghost use Prim.Native.Nat.{_<_, _≤_};
 ghost use Rattle.wfsx.specs.Sets.{∅};
-ghost use Rattle.wfsx.specs.Program.{compl};
 ghost use Rattle.wfsx.specs.Model.{every, supported};
 ghost use Rattle.wfsx.specs.Trees.{tree, answer, T, TU};
 ghost use Rattle.litset.specs.Words.{capacity, setOf};
@@ -132,7 +131,15 @@ fn tu_node<'a>(
     if litset::contains(path, a) {
         return false;
     }
-    let leaf = !t_node(heads, starts, entries, count, facts, other(a), above);
+    let leaf = !t_node(
+        heads,
+        starts,
+        entries,
+        count,
+        facts,
+        litset::complement(a),
+        above,
+    );
     if leaf {
         if litset::contains(facts, a) {
             return true;
@@ -174,7 +181,7 @@ fn some_rule<'a>(
     while r < count {
         let i = r;
         r += 1;
-        if wide(heads[i]) % litset::CAPACITY != a {
+        if book::wide(heads[i]) % litset::CAPACITY != a {
             continue;
         }
         if all_children(heads, starts, entries, count, facts, kind, i, path, above) {
@@ -201,10 +208,10 @@ fn all_children<'a>(
         (programIn (now (heads .entry)) (now (starts .entry)) (now (entries .entry)) count (facts .words))
         (treeOf kind) (setOf (path .words)) (setOf (above .words))) (ruleAt (now (heads .entry)) (now (starts .entry)) (now (entries .entry)) i .body) ⌝ }
 {
-    let end = least(wide(starts[i + 1]), entries.len());
-    let mut j = wide(starts[i]);
+    let end = book::least(book::wide(starts[i + 1]), entries.len());
+    let mut j = book::wide(starts[i]);
     while j < end {
-        let e = wide(entries[j]);
+        let e = book::wide(entries[j]);
         if !child(
             heads,
             starts,
@@ -222,24 +229,4 @@ fn all_children<'a>(
         j += 1;
     }
     true
-}
-
-// The complement of a literal.
-fn other(a: usize) -> usize
-    requires { ⌜ a < capacity ⌝ }
-    ensures { λ r. ⌜ (r ≡ compl a) × (r < capacity) ⌝ }
-{
-    if a % 2 == 0 { a + 1 } else { a - 1 }
-}
-
-fn wide(n: u16) -> usize
-    ensures { λ r. ⌜ r ≡ n ⌝ }
-{
-    n as usize
-}
-
-fn least(n: usize, most: usize) -> usize
-    ensures { λ r. ⌜ (r ≤ n) × ((r ≤ most) × (r < n → most ≤ r)) ⌝ }
-{
-    if n < most { n } else { most }
 }

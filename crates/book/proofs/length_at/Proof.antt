@@ -7,21 +7,21 @@ use Rattle.book.specs.Limits.{maxLength}
 use Rattle.book.proofs.length_at.Statement.{statement}
 use Rattle.book.proofs.length_at.Tie as tie
 
-shared-slice-read-wide : tie.Need-shared-slice-read-wide
-shared-slice-read-wide c = search needs
+shared-slice-read-byte : tie.Need-shared-slice-read-byte
+shared-slice-read-byte c = search needs
 
-wide-requires : tie.Need-wide-requires
-wide-requires c κs = search needs
+byte-requires : tie.Need-byte-requires
+byte-requires c κs = search needs
 
 clamped-requires : tie.Need-clamped-requires
 clamped-requires c κs = search needs
 
 returns : tie.Need-returns
-returns c = c .clamped .ensures ∙ ap (clamp maxLength) (c .before .wide .ensures)
+returns c = c .clamped .ensures ∙ ap (clamp maxLength) (c .before .byte .ensures)
 
 returns-2 : tie.Need-returns-2
 returns-2 c = sym (ap (clamp maxLength) (List·getD-eq-default (c .before .before .args .lengths .now) 0 (c .if1 .left)))
 
 pub length-at-spec : {M : Type 1} → statement M
 length-at-spec =
-    tie.close (tie.spec shared-slice-read-wide wide-requires clamped-requires returns returns-2)
+    tie.close (tie.spec shared-slice-read-byte byte-requires clamped-requires returns returns-2)

@@ -14,6 +14,7 @@ use Rattle.search.specs.Questions.{treeOf}
 use Rattle.search.specs.Walk.{programIn, childIn}
 use Rattle.search.proofs.Loops.{RulesLeft, rules-first, rules-other, rules-fail, rules-hold, rules-over, EntriesLeft, entries-first, entries-more, entries-fail, entries-over}
 use Rattle.search.proofs.Nodes.{t-pruned, t-fact, t-rules, tu-pruned, tu-blocked, tu-fact, tu-rules, T-positive, T-default, TU-positive, TU-default}
+use Rattle.litset.proofs.Words.{compl-small}
 use Rattle.search.proofs.Falls.{t-size, tu-size, child-size, t-falls, tu-falls, complement-falls, T-t-falls, T-tu-falls, TU-t-falls, TU-tu-falls}
 use borrow.Fn.Kinds.{In}
 use borrow.Fn.PlainCycle.{Measures, is, falls, and}
@@ -35,9 +36,9 @@ use Rattle.search.proofs.+all_children+child+some_rule+t_node+tu_node.L
 use Rattle.litset.proofs.contains.Reads as contains-reads
 use Rattle.litset.proofs.empty.Reads as empty-reads
 use Rattle.litset.proofs.insert.Reads as insert-reads
-use Rattle.search.proofs.least.Reads as least-reads
-use Rattle.search.proofs.other.Reads as other-reads
-use Rattle.search.proofs.wide.Reads as wide-reads
+use Rattle.book.proofs.least.Reads as least-reads
+use Rattle.litset.proofs.complement.Reads as complement-reads
+use Rattle.book.proofs.wide.Reads as wide-reads
 use Rattle.search.proofs.+all_children+child+some_rule+t_node+tu_node.{statement}
 use Rattle.search.proofs.+all_children+child+some_rule+t_node+tu_node.Tie.{close}
 
@@ -111,7 +112,7 @@ all-children-in : (t : ℕ) (q : all-children-lts.In-loop (all-children-claims t
     → (q .before .loop .j < getD (q .before .before .before .before .before .before .before .before .before .before .args .starts .now) (q .before .before .before .before .before .before .before .before .before .before .args .i + 1) 0) × (q .before .loop .j < length (q .before .before .before .before .before .before .before .before .before .before .args .entries .now))
 all-children-in t q =
     let least = q .before .before .before .before .least .ensures in
-    (omega (arith, q .loop-test .taken, least .0, q .before .before .before .before .before .wide .ensures), omega (arith, q .loop-test .taken, least .1 .0))
+    (omega (arith, q .loop-test .taken, least, q .before .before .before .before .before .wide .ensures), omega (arith, q .loop-test .taken, least))
 
 all-children-add-wide : (t : ℕ)
     → all-children-lts.Need-add-wide (all-children-claims t) (all-children-at t) all-children.Post all-children-Inv-loop all-children-μ-loop
@@ -191,7 +192,7 @@ all-children-returns-2 : (t : ℕ)
     → all-children-lts.Need-returns-2 (all-children-claims t) (all-children-at t) all-children.Post all-children-Inv-loop all-children-μ-loop
 all-children-returns-2 t c =
     entries-over
-    (λ h. omega (arith, c .loop-test .left, c .before .before .before .before .least .ensures .1 .1 (omega (arith, c .loop-test .left, c .before .before .before .before .before .wide .ensures))))
+    (λ h. omega (arith, c .loop-test .left, c .before .before .before .before .least .ensures, c .before .before .before .before .before .wide .ensures))
     (c .before .loop .inv)
 
 abbrev child-claims : ℕ → child-lts.Claims
@@ -343,7 +344,7 @@ t-node-returns-3 t c =
 
 abbrev tu-node-claims : ℕ → tu-node-lts.Claims
 tu-node-claims t =
-    (contains-reads.Asked, contains-reads.Learnt, other-reads.Asked, other-reads.Learnt, t-node-below t, t-node.Post, insert-reads.Asked, insert-reads.Learnt, some-rule-below t, some-rule.Post)
+    (contains-reads.Asked, contains-reads.Learnt, complement-reads.Asked, complement-reads.Learnt, t-node-below t, t-node.Post, insert-reads.Asked, insert-reads.Learnt, some-rule-below t, some-rule.Post)
 
 tu-node-contains-requires : (t : ℕ) → tu-node-lts.Need-contains-requires (tu-node-claims t) (tu-node-at t) tu-node.Post
 tu-node-contains-requires t c κs = search needs
@@ -356,13 +357,13 @@ tu-node-new : (t : ℕ) (q : tu-node-lts.Else1 (tu-node-claims t) (tu-node-at t)
     → false ≡ setOf (q .before .before .before .before .before .args .path .words) (q .before .before .before .before .before .args .a)
 tu-node-new t q = sym (q .if1 .left) ∙ q .before .contains .ensures
 
-tu-node-other-requires : (t : ℕ) → tu-node-lts.Need-other-requires (tu-node-claims t) (tu-node-at t) tu-node.Post
-tu-node-other-requires t c κs = search needs
+tu-node-complement-requires : (t : ℕ) → tu-node-lts.Need-complement-requires (tu-node-claims t) (tu-node-at t) tu-node.Post
+tu-node-complement-requires t c κs = search needs
 
 tu-node-t-node-requires : (t : ℕ) → tu-node-lts.Need-t-node-requires (tu-node-claims t) (tu-node-at t) tu-node.Post
 tu-node-t-node-requires t c κs =
     let start = c .before .before .before .before .before .before in
-    (complement-falls _ _ _ (start .pre .0), (start .pre .1 .0, c .other .ensures .1))
+    (complement-falls _ _ _ (start .pre .0), (start .pre .1 .0, omega (arith, c .complement .ensures, compl-small _ (start .pre .1 .1))))
 
 tu-node-contains-requires-2 : (t : ℕ) → tu-node-lts.Need-contains-requires-2 (tu-node-claims t) (tu-node-at t) tu-node.Post
 tu-node-contains-requires-2 t c κs = search needs
@@ -370,7 +371,7 @@ tu-node-contains-requires-2 t c κs = search needs
 tu-node-returns-2 : (t : ℕ) → tu-node-lts.Need-returns-2 (tu-node-claims t) (tu-node-at t) tu-node.Post
 tu-node-returns-2 t c =
     let start = c .before .before .before .before .before .before .before .before .before .before in
-    tu-fact _ _ _ _ _ _ _ _ _ (c .before .before .before .before .other .ensures .0) (start .pre .1 .0 .facts-room) (tu-node-new t (c .before .before .before .before .before))
+    tu-fact _ _ _ _ _ _ _ _ _ (c .before .before .before .before .complement .ensures) (start .pre .1 .0 .facts-room) (tu-node-new t (c .before .before .before .before .before))
     (sym (not-true _ (c .before .before .if2 .taken)) ∙ c .before .before .before .t-node .ensures) (sym (c .if3 .taken) ∙ c .before .contains2 .ensures)
 
 tu-node-insert-requires : (t : ℕ) → tu-node-lts.Need-insert-requires (tu-node-claims t) (tu-node-at t) tu-node.Post
@@ -384,13 +385,13 @@ tu-node-some-rule-requires t c κs =
 tu-node-returns-3 : (t : ℕ) → tu-node-lts.Need-returns-3 (tu-node-claims t) (tu-node-at t) tu-node.Post
 tu-node-returns-3 t c =
     let start = c .before .before .before .before .before .before .before .before .before .before .before .before in
-    c .some-rule .ensures ∙ tu-rules _ _ _ _ _ _ _ _ _ (c .before .before .before .before .before .before .other .ensures .0) (start .pre .1 .0 .facts-room) (start .pre .1 .1) (tu-node-new t (c .before .before .before .before .before .before .before))
+    c .some-rule .ensures ∙ tu-rules _ _ _ _ _ _ _ _ _ (c .before .before .before .before .before .before .complement .ensures) (start .pre .1 .0 .facts-room) (start .pre .1 .1) (tu-node-new t (c .before .before .before .before .before .before .before))
     (sym (not-true _ (c .before .before .before .before .if2 .taken)) ∙ c .before .before .before .before .before .t-node .ensures) (sym (c .before .before .if3 .left) ∙ c .before .before .before .contains2 .ensures) _
     (c .before .insert .ensures)
 
 tu-node-returns-4 : (t : ℕ) → tu-node-lts.Need-returns-4 (tu-node-claims t) (tu-node-at t) tu-node.Post
 tu-node-returns-4 t c =
-    tu-blocked _ _ _ _ _ _ _ _ _ (c .before .before .other .ensures .0) (sym (not-false _ (c .if2 .left)) ∙ c .before .t-node .ensures)
+    tu-blocked _ _ _ _ _ _ _ _ _ (c .before .before .complement .ensures) (sym (not-false _ (c .if2 .left)) ∙ c .before .t-node .ensures)
 
 pub +all-children+child+some-rule+t-node+tu-node-spec : {M : Type 1} → statement M
 +all-children+child+some-rule+t-node+tu-node-spec =
@@ -464,7 +465,7 @@ pub +all-children+child+some-rule+t-node+tu-node-spec : {M : Type 1} → stateme
     tu-node.Post
     (tu-node-contains-requires t)
     (tu-node-returns t)
-    (tu-node-other-requires t)
+    (tu-node-complement-requires t)
     (tu-node-t-node-requires t)
     (tu-node-contains-requires-2 t)
     (tu-node-returns-2 t)

@@ -9,7 +9,7 @@ use Rattle.wfsx.specs.Trees.{answer}
 use Rattle.wfsx.specs.Program.{Program}
 use Rattle.litset.specs.Words.{nWords}
 use Rattle.book.specs.Limits.{maxRules}
-use Rattle.book.proofs.Rows.{clamp-most}
+use Rattle.book.proofs.Counts.{clamp-most}
 use Rattle.search.specs.Questions.{treeOf, questionOf}
 use Rattle.search.proofs.Nodes.{past-capacity, program-whole, question-whole}
 use Rattle.search.proofs.search.Statement.{statement}

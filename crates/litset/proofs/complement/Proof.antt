@@ -2,8 +2,8 @@
 use borrow.Author.Needs.{needs}
 use borrow.Author.Tests.{eq-eqb, ne-eqb}
 use Rattle.wfsx.specs.Program.{compl}
-use Rattle.fixpoint.proofs.complement.Statement.{statement}
-use Rattle.fixpoint.proofs.complement.Tie as tie
+use Rattle.litset.proofs.complement.Statement.{statement}
+use Rattle.litset.proofs.complement.Tie as tie
 
 add-result : tie.Need-add-result
 add-result c = search needs
