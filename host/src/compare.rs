@@ -23,18 +23,26 @@ pub const MOST_VISITS: u64 = 200_000;
 /// What a buffer holds before it is lent: no byte of a listing.
 const UNTOUCHED: u8 = 0xA5;
 
-/// Where the two desks first differ in a list of calls, or nothing. The other desk is a fresh one.
+/// Where the two desks first differ in a list of calls or after it, or nothing. The other desk is a
+/// fresh one.
 pub fn first_difference(calls: &[Call], other: &mut dyn Desk) -> Option<String> {
     let mut second = Lesson::fresh();
-    for (place, call) in calls.iter().enumerate() {
-        let (ours, theirs) = both(call, &mut second, other);
-        if ours != theirs {
-            return Some(format!(
-                "call {place} ({call:?}): second says {ours}, the other says {theirs}"
-            ));
-        }
-    }
-    difference_at_the_end(&second, other)
+    first_answer_that_differs(calls, &mut second, other)
+        .or_else(|| difference_at_the_end(&second, other))
+}
+
+/// The first call of a list whose answers differ, or nothing.
+pub fn first_answer_that_differs(
+    calls: &[Call],
+    second: &mut Lesson,
+    other: &mut dyn Desk,
+) -> Option<String> {
+    calls.iter().enumerate().find_map(|(place, call)| {
+        let (ours, theirs) = both(call, second, other);
+        (ours != theirs).then(|| {
+            format!("call {place} ({call:?}): second says {ours}, the other says {theirs}")
+        })
+    })
 }
 
 /// A short list of calls that shows a difference, with its difference, ready to print.

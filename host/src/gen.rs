@@ -320,6 +320,53 @@ fn heap_of_fields(random: &mut Random) -> Vec<u8> {
     file
 }
 
+/// Files at the edges of every limit, and of every number from 1 to 9.
+pub fn edge_files() -> Vec<Vec<u8>> {
+    let names = |count: usize| -> String { (0..count).map(|n| format!("name,n{n}\n")).collect() };
+    let rules = |count: usize| "rule,n0\n".repeat(count);
+    let body = |count: usize| format!("rule,n0{}\n", ",~-n0".repeat(count));
+    let bodies = body(16).repeat(128);
+    let long_name = |length: usize| "x".repeat(length);
+    let mut files = Vec::new();
+    for count in [0, 1, 127, 128, 129, 130] {
+        files.push(names(count) + "end\n");
+    }
+    files.push(names(128) + "name,n0\nend\n");
+    for count in [511, 512, 513] {
+        files.push(names(1) + &rules(count) + "end\n");
+        files.push(names(1) + &rules(count) + "rule,absent\nend\n");
+    }
+    for count in [15, 16, 17, 18, 600] {
+        files.push(names(1) + &body(count) + "end\n");
+    }
+    for more in [body(0), body(1), body(16)] {
+        files.push(names(1) + &bodies + &more + "end\n");
+    }
+    files.push(names(1) + &body(15) + &body(16).repeat(127) + &body(2) + "end\n");
+    for length in [0, 1, 15, 16, 17, 18, 255, 256, 257, 300] {
+        let name = long_name(length);
+        files.push(format!("name,{name}\nrule,{name},~-{name}\nend\n"));
+        files.push(format!("name,a\nrule,a,{name}\nend\n"));
+        files.push(format!("name,a\nrule,-{name}\nend\n"));
+    }
+    for length in [
+        59_999, 60_000, 60_001, 60_002, 65_535, 65_536, 65_537, 70_000,
+    ] {
+        files.push(",".repeat(length - 1) + "\n");
+        files.push("\n".repeat(length));
+        files.push("end\n".to_string() + &"x".repeat(length - 5) + "\n");
+        files.push("a".repeat(length));
+        files.push("end\n".to_string() + &"\u{7f}".repeat(length - 4));
+    }
+    let mut files: Vec<Vec<u8>> = files.into_iter().map(String::into_bytes).collect();
+    for byte in 0..=255 {
+        files.push([b"name,a", &[byte][..], b"\nend\n"].concat());
+        files.push([b"name,", &[byte][..], b"\nend\n"].concat());
+        files.push(vec![byte]);
+    }
+    files
+}
+
 /// One call on a lesson.
 #[derive(Clone, PartialEq, Eq)]
 pub enum Call {

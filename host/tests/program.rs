@@ -80,57 +80,10 @@ fn examples_agree() {
     }
 }
 
-/// Files at the edges of every limit, and of every number from 1 to 9.
-fn edge_files() -> Vec<Vec<u8>> {
-    let names = |count: usize| -> String { (0..count).map(|n| format!("name,n{n}\n")).collect() };
-    let rules = |count: usize| "rule,n0\n".repeat(count);
-    let body = |count: usize| format!("rule,n0{}\n", ",~-n0".repeat(count));
-    let bodies = body(16).repeat(128);
-    let long_name = |length: usize| "x".repeat(length);
-    let mut files = Vec::new();
-    for count in [0, 1, 127, 128, 129, 130] {
-        files.push(names(count) + "end\n");
-    }
-    files.push(names(128) + "name,n0\nend\n");
-    for count in [511, 512, 513] {
-        files.push(names(1) + &rules(count) + "end\n");
-        files.push(names(1) + &rules(count) + "rule,absent\nend\n");
-    }
-    for count in [15, 16, 17, 18, 600] {
-        files.push(names(1) + &body(count) + "end\n");
-    }
-    for more in [body(0), body(1), body(16)] {
-        files.push(names(1) + &bodies + &more + "end\n");
-    }
-    files.push(names(1) + &body(15) + &body(16).repeat(127) + &body(2) + "end\n");
-    for length in [0, 1, 15, 16, 17, 18, 255, 256, 257, 300] {
-        let name = long_name(length);
-        files.push(format!("name,{name}\nrule,{name},~-{name}\nend\n"));
-        files.push(format!("name,a\nrule,a,{name}\nend\n"));
-        files.push(format!("name,a\nrule,-{name}\nend\n"));
-    }
-    for length in [
-        59_999, 60_000, 60_001, 60_002, 65_535, 65_536, 65_537, 70_000,
-    ] {
-        files.push(",".repeat(length - 1) + "\n");
-        files.push("\n".repeat(length));
-        files.push("end\n".to_string() + &"x".repeat(length - 5) + "\n");
-        files.push("a".repeat(length));
-        files.push("end\n".to_string() + &"\u{7f}".repeat(length - 4));
-    }
-    let mut files: Vec<Vec<u8>> = files.into_iter().map(String::into_bytes).collect();
-    for byte in 0..=255 {
-        files.push([b"name,a", &[byte][..], b"\nend\n"].concat());
-        files.push([b"name,", &[byte][..], b"\nend\n"].concat());
-        files.push(vec![byte]);
-    }
-    files
-}
-
 #[test]
 fn edges_agree() {
     let Some(program) = program() else { return };
-    let files = edge_files();
+    let files = gen::edge_files();
     for file in &files {
         compare(&program, file);
     }
@@ -157,7 +110,10 @@ fn random_and_damaged_files_agree() {
 /// The edges reach every number, so that the comparison above looks at all of them.
 #[test]
 fn edges_reach_every_number() {
-    let printed: Vec<String> = edge_files().iter().map(|f| program_output(f)).collect();
+    let printed: Vec<String> = gen::edge_files()
+        .iter()
+        .map(|f| program_output(f))
+        .collect();
     for number in [1, 2, 3, 4, 5, 6, 7, 8, 9] {
         let start = format!("refused,{number},");
         assert!(printed.iter().any(|p| p.starts_with(&start)), "{number}");
