@@ -1,0 +1,226 @@
+//! What a call answers, in the words and numbers of document 01.
+
+use std::collections::BTreeSet;
+use std::fmt;
+
+/// What the model says of a literal.
+#[derive(Clone, Copy, Debug, PartialEq, Eq)]
+pub enum Verdict {
+    /// The literal is in M.
+    True,
+    /// The literal isn't in N.
+    False,
+    /// The literal is in N and not in M.
+    Undefined,
+}
+
+impl Verdict {
+    /// The word that a listing prints.
+    pub fn word(self) -> &'static str {
+        match self {
+            Verdict::True => "true",
+            Verdict::False => "false",
+            Verdict::Undefined => "undefined",
+        }
+    }
+}
+
+/// The kind of tree that a search walks.
+#[derive(Clone, Copy, Debug, PartialEq, Eq)]
+pub enum Tree {
+    /// Proves that a literal is true.
+    T,
+    /// Proves that a literal isn't false.
+    TU,
+}
+
+/// What a search asks: a tree for a literal, with or without `~` before it.
+#[derive(Clone, Copy, Debug, PartialEq, Eq)]
+pub struct Question {
+    /// The number of the objective literal: 2n for name n, 2n + 1 for its explicit negation.
+    pub literal: usize,
+    /// Whether `~` stands before the literal.
+    pub default: bool,
+    /// The kind of tree.
+    pub tree: Tree,
+}
+
+/// The answer of the model call.
+#[derive(Clone, Debug, PartialEq, Eq)]
+pub struct Model {
+    /// M, the literals that are true.
+    pub truths: BTreeSet<usize>,
+    /// N, the literals that aren't false.
+    pub nonfalse: BTreeSet<usize>,
+    /// Whether the lesson is contradictory.
+    pub contradictory: bool,
+}
+
+/// A fault of a marking file.
+#[derive(Clone, Copy, Debug, PartialEq, Eq)]
+pub enum Fault {
+    /// 1: more than 60,000 bytes.
+    TooLong,
+    /// 2: a byte that is neither 10 nor 32 to 126.
+    ForeignByte,
+    /// 3: no bytes, or the last byte isn't 10.
+    NotEnded,
+    /// 4: an unknown first field, or a wrong count of fields.
+    Fields,
+    /// 5: a malformed name or literal, or a head with `~`.
+    Malformed,
+    /// 6: a name declared before.
+    DeclaredBefore,
+    /// 7: a rule uses an undeclared name.
+    Undeclared,
+    /// 8: one name, rule or body literal beyond the table.
+    TableFull,
+    /// 9: a line after `end`, or no `end`.
+    End,
+}
+
+/// Every fault with its number and the words that a person reads.
+const FAULTS: [(Fault, u8, &str); 9] = [
+    (Fault::TooLong, 1, "more than 60,000 bytes"),
+    (Fault::ForeignByte, 2, "a byte that is no printable ASCII"),
+    (Fault::NotEnded, 3, "no bytes, or no newline at the end"),
+    (
+        Fault::Fields,
+        4,
+        "an unknown first word, or a wrong count of fields",
+    ),
+    (
+        Fault::Malformed,
+        5,
+        "a malformed name or literal, or `~` at the head",
+    ),
+    (Fault::DeclaredBefore, 6, "a name declared before"),
+    (Fault::Undeclared, 7, "a rule uses an undeclared name"),
+    (
+        Fault::TableFull,
+        8,
+        "one name, rule or body literal too many",
+    ),
+    (Fault::End, 9, "a line after `end`, or no `end`"),
+];
+
+impl Fault {
+    /// The fault with a number from 1 to 9.
+    pub fn from_number(number: u8) -> Option<Fault> {
+        let row = FAULTS.iter().find(|row| row.1 == number)?;
+        Some(row.0)
+    }
+
+    fn row(self) -> &'static (Fault, u8, &'static str) {
+        FAULTS
+            .iter()
+            .find(|row| row.0 == self)
+            .expect("every fault has a row")
+    }
+
+    /// The number that document 01 gives the fault.
+    pub fn number(self) -> u8 {
+        self.row().1
+    }
+}
+
+/// Why a call was turned down. The lesson and every lent byte are as they were.
+#[derive(Clone, Copy, Debug, PartialEq, Eq)]
+pub enum Refused {
+    /// 1 to 9: the file has a fault in this line; line 0 stands for the whole file.
+    File {
+        /// What is wrong.
+        fault: Fault,
+        /// The line, counted from 1.
+        line: usize,
+    },
+    /// 20: no book is loaded.
+    NoBook,
+    /// 21: the literal number isn't below twice the count of names.
+    NoSuchLiteral,
+    /// 22: the literal is put in now.
+    PutInNow,
+    /// 23: the literal isn't put in now.
+    NotPutIn,
+    /// 24: the lesson is contradictory, so it has no verdicts.
+    Contradictory,
+    /// 25: the lent buffer is shorter than the listing.
+    BufferTooShort,
+}
+
+impl Refused {
+    /// The number that document 01 gives the refusal.
+    pub fn number(self) -> u8 {
+        match self {
+            Refused::File { fault, .. } => fault.number(),
+            Refused::NoBook => 20,
+            Refused::NoSuchLiteral => 21,
+            Refused::PutInNow => 22,
+            Refused::NotPutIn => 23,
+            Refused::Contradictory => 24,
+            Refused::BufferTooShort => 25,
+        }
+    }
+
+    /// The line of a refused file; 0 for a fault of the whole file and for every other refusal.
+    pub fn line(self) -> usize {
+        match self {
+            Refused::File { line, .. } => line,
+            _ => 0,
+        }
+    }
+
+    /// The refusal with a number, and a line where the number is a file's.
+    pub fn from_number(number: u8, line: usize) -> Option<Refused> {
+        if let Some(fault) = Fault::from_number(number) {
+            return Some(Refused::File { fault, line });
+        }
+        match number {
+            20 => Some(Refused::NoBook),
+            21 => Some(Refused::NoSuchLiteral),
+            22 => Some(Refused::PutInNow),
+            23 => Some(Refused::NotPutIn),
+            24 => Some(Refused::Contradictory),
+            25 => Some(Refused::BufferTooShort),
+            _ => None,
+        }
+    }
+}
+
+impl fmt::Display for Refused {
+    fn fmt(&self, f: &mut fmt::Formatter<'_>) -> fmt::Result {
+        let words = match self {
+            Refused::File { fault, line } => {
+                return write!(f, "{}, line {line}: {}", fault.number(), fault.row().2)
+            }
+            Refused::NoBook => "no book is loaded",
+            Refused::NoSuchLiteral => "the book has no literal with this number",
+            Refused::PutInNow => "the literal is put in already",
+            Refused::NotPutIn => "the literal isn't put in",
+            Refused::Contradictory => "the lesson is contradictory",
+            Refused::BufferTooShort => "the buffer is shorter than the listing",
+        };
+        write!(f, "{}: {words}", self.number())
+    }
+}
+
+impl std::error::Error for Refused {}
+
+#[cfg(test)]
+mod tests {
+    use super::*;
+
+    #[test]
+    fn numbers_and_refusals_name_each_other() {
+        let known = (1..=9).chain(20..=25);
+        for number in known.clone() {
+            let refused = Refused::from_number(number, 3).expect("a number of document 01");
+            assert_eq!(refused.number(), number);
+            assert_eq!(refused.line(), if number <= 9 { 3 } else { 0 });
+        }
+        let unknown = (0..=255u8).filter(|n| !known.clone().any(|k| k == *n));
+        assert!(unknown
+            .into_iter()
+            .all(|n| Refused::from_number(n, 3).is_none()));
+    }
+}

@@ -1,0 +1,489 @@
+//! Books, files and lists of calls from a seed. The same seed gives the same values everywhere.
+
+use crate::answer::{Question, Tree};
+use crate::second::{Book, Entry, Rule};
+use crate::second::{MOST_BODY_LITERALS, MOST_IN_A_BODY, MOST_NAMES, MOST_RULES};
+use std::fmt;
+
+/// A generator of numbers: xorshift of 64 bits with a multiplication at the end.
+#[derive(Clone, Debug)]
+pub struct Random(u64);
+
+impl Random {
+    pub fn new(seed: u64) -> Random {
+        // The state is never 0, and neighbouring seeds start far apart.
+        let mut random = Random(seed.wrapping_mul(0x9E37_79B9_7F4A_7C15) | 1);
+        for _ in 0..8 {
+            random.next();
+        }
+        random
+    }
+
+    pub fn next(&mut self) -> u64 {
+        self.0 ^= self.0 >> 12;
+        self.0 ^= self.0 << 25;
+        self.0 ^= self.0 >> 27;
+        self.0.wrapping_mul(0x2545_F491_4F6C_DD1D)
+    }
+
+    /// A number below `bound`, or 0 where `bound` is 0.
+    pub fn below(&mut self, bound: usize) -> usize {
+        if bound == 0 {
+            return 0;
+        }
+        ((self.next() >> 32) as usize) % bound
+    }
+
+    /// A number from `low` to `high`, both included.
+    pub fn between(&mut self, low: usize, high: usize) -> usize {
+        low + self.below(high - low + 1)
+    }
+
+    /// Yes in `part` of `whole` cases.
+    pub fn chance(&mut self, part: usize, whole: usize) -> bool {
+        self.below(whole) < part
+    }
+
+    pub fn pick<T: Copy>(&mut self, choices: &[T]) -> T {
+        choices[self.below(choices.len())]
+    }
+}
+
+/// Names of a truck school, the one for each number of a book.
+fn name(number: usize) -> String {
+    const WORDS: [&str; 8] = [
+        "brake", "axle", "light", "load", "mirror", "belt", "speed", "gap",
+    ];
+    let word = WORDS[number % WORDS.len()];
+    if number < WORDS.len() {
+        word.to_string()
+    } else {
+        format!("{word}_{}", number / WORDS.len())
+    }
+}
+
+/// How large a random book may be.
+#[derive(Clone, Copy, Debug)]
+pub struct Size {
+    pub names: usize,
+    pub rules: usize,
+    /// Body literals of one rule.
+    pub body: usize,
+}
+
+/// Small enough that plain trees end.
+pub const SMALL: Size = Size {
+    names: 4,
+    rules: 9,
+    body: 3,
+};
+
+/// The limits of document 01.
+pub const FULL: Size = Size {
+    names: MOST_NAMES,
+    rules: MOST_RULES,
+    body: MOST_IN_A_BODY,
+};
+
+/// A book of at most this size.
+pub fn book(random: &mut Random, size: Size) -> Book {
+    let names = random.below(size.names + 1);
+    let rules = random.below(size.rules + 1);
+    book_of(random, names, rules, size.body)
+}
+
+/// A book with all names and rules that a file may have, and as many body literals as fit.
+pub fn full_book(random: &mut Random) -> Book {
+    book_of(random, MOST_NAMES, MOST_RULES, MOST_IN_A_BODY)
+}
+
+fn book_of(random: &mut Random, names: usize, rules: usize, body: usize) -> Book {
+    let mut book = Book {
+        names: (0..names).map(name).collect(),
+        rules: Vec::new(),
+    };
+    if names == 0 {
+        return book;
+    }
+    // In some books explicit negation is rare, so that most of them aren't contradictory.
+    let negated = random.pick(&[1, 3, 8]);
+    let mut room = MOST_BODY_LITERALS;
+    for _ in 0..rules {
+        let rule = rule_of(random, names, body.min(room), negated);
+        room -= rule.body.len();
+        book.rules.push(rule);
+    }
+    book
+}
+
+fn rule_of(random: &mut Random, names: usize, most: usize, negated: usize) -> Rule {
+    let head = literal_of(random, names, negated);
+    let length = random.below(most + 1);
+    let body = (0..length)
+        .map(|_| Entry {
+            literal: literal_of(random, names, negated),
+            default: random.chance(1, 2),
+        })
+        .collect();
+    Rule { head, body }
+}
+
+/// A literal that has `-` in `negated` of 16 cases.
+fn literal_of(random: &mut Random, names: usize, negated: usize) -> usize {
+    2 * random.below(names) + usize::from(random.chance(negated, 16))
+}
+
+/// A file: often a book's, often a damaged one, at times a heap of fields.
+pub fn file(random: &mut Random, size: Size) -> Vec<u8> {
+    let written = book(random, size).to_file().into_bytes();
+    match random.below(8) {
+        0..=2 => written,
+        3..=6 => damaged(random, &written),
+        _ => heap_of_fields(random),
+    }
+}
+
+/// A file with one to three faults; a fault may by chance leave a file that loads.
+pub fn damaged(random: &mut Random, file: &[u8]) -> Vec<u8> {
+    let mut file = file.to_vec();
+    for _ in 0..random.between(1, 3) {
+        file = damaged_once(random, file);
+    }
+    file
+}
+
+fn damaged_once(random: &mut Random, mut file: Vec<u8>) -> Vec<u8> {
+    match random.below(10) {
+        0 => flip(random, &mut file),
+        1 => file.truncate(random.below(file.len() + 1)),
+        2 => replace_byte(random, &mut file),
+        3 => insert_byte(random, &mut file),
+        4 => file = with_lines(file, |lines| swap_lines(random, lines)),
+        5 => file = with_lines(file, |lines| drop_line(random, lines)),
+        6 => file = with_lines(file, |lines| repeat_line(random, lines)),
+        7 => file = with_lines(file, |lines| drop_field(random, lines)),
+        8 => file = with_lines(file, |lines| add_field(random, lines)),
+        _ => file = with_lines(file, |lines| add_line(random, lines)),
+    }
+    file
+}
+
+/// Bytes at and beside the edges of what a file, a field and a name may hold.
+const EDGE_BYTES: &[u8] = b"\x00\x09\n\n\r\x1f !,,,~~--_az`{09/:AZ@[\x7e\x7f\x80\xffenrul";
+
+fn flip(random: &mut Random, file: &mut [u8]) {
+    if !file.is_empty() {
+        let place = random.below(file.len());
+        file[place] ^= 1 << random.below(8);
+    }
+}
+
+fn replace_byte(random: &mut Random, file: &mut [u8]) {
+    if !file.is_empty() {
+        let place = random.below(file.len());
+        file[place] = random.pick(EDGE_BYTES);
+    }
+}
+
+fn insert_byte(random: &mut Random, file: &mut Vec<u8>) {
+    let place = random.below(file.len() + 1);
+    file.insert(place, random.pick(EDGE_BYTES));
+}
+
+/// The lines of a file, each with its newline where it has one.
+pub fn lines_of(file: &[u8]) -> Vec<Vec<u8>> {
+    file.split_inclusive(|&byte| byte == b'\n')
+        .map(<[u8]>::to_vec)
+        .collect()
+}
+
+fn with_lines(file: Vec<u8>, change: impl FnOnce(&mut Vec<Vec<u8>>)) -> Vec<u8> {
+    let mut lines = lines_of(&file);
+    change(&mut lines);
+    lines.concat()
+}
+
+fn swap_lines(random: &mut Random, lines: &mut [Vec<u8>]) {
+    if !lines.is_empty() {
+        let (one, other) = (random.below(lines.len()), random.below(lines.len()));
+        lines.swap(one, other);
+    }
+}
+
+fn drop_line(random: &mut Random, lines: &mut Vec<Vec<u8>>) {
+    if !lines.is_empty() {
+        lines.remove(random.below(lines.len()));
+    }
+}
+
+fn repeat_line(random: &mut Random, lines: &mut Vec<Vec<u8>>) {
+    if !lines.is_empty() {
+        let line = lines[random.below(lines.len())].clone();
+        lines.insert(random.below(lines.len() + 1), line);
+    }
+}
+
+fn add_line(random: &mut Random, lines: &mut Vec<Vec<u8>>) {
+    let line = line_of_fields(random);
+    lines.insert(random.below(lines.len() + 1), line);
+}
+
+/// Removes a field of a line, with the comma before or behind it.
+fn drop_field(random: &mut Random, lines: &mut [Vec<u8>]) {
+    change_fields(random, lines, |random, fields| {
+        fields.remove(random.below(fields.len()));
+    });
+}
+
+fn add_field(random: &mut Random, lines: &mut [Vec<u8>]) {
+    change_fields(random, lines, |random, fields| {
+        let count = random.pick(&[1, 1, 1, 14, 15, 16, 17, 18]);
+        let place = random.below(fields.len() + 1);
+        for _ in 0..count {
+            fields.insert(place, field(random));
+        }
+    });
+}
+
+fn change_fields(
+    random: &mut Random,
+    lines: &mut [Vec<u8>],
+    change: impl FnOnce(&mut Random, &mut Vec<Vec<u8>>),
+) {
+    if lines.is_empty() {
+        return;
+    }
+    let place = random.below(lines.len());
+    let line = lines[place].strip_suffix(b"\n").unwrap_or(&lines[place]);
+    let mut fields: Vec<Vec<u8>> = line
+        .split(|&byte| byte == b',')
+        .map(<[u8]>::to_vec)
+        .collect();
+    change(random, &mut fields);
+    lines[place] = fields.join(&b',');
+    lines[place].push(b'\n');
+}
+
+/// A field that is a word, a literal, or nearly one.
+fn field(random: &mut Random) -> Vec<u8> {
+    const FIELDS: &[&str] = &[
+        "",
+        "name",
+        "rule",
+        "end",
+        "names",
+        "en",
+        "brake",
+        "-brake",
+        "~brake",
+        "~-brake",
+        "axle",
+        "~axle",
+        "-~axle",
+        "~~axle",
+        "--axle",
+        "~",
+        "-",
+        "~-",
+        "light ",
+        " light",
+        "Light",
+        "9light",
+        "_light",
+        "light_9",
+        "a234567890123456",
+        "a2345678901234567",
+        "-a234567890123456",
+        "~-a234567890123456",
+        "~-a2345678901234567",
+    ];
+    random.pick(FIELDS).as_bytes().to_vec()
+}
+
+fn line_of_fields(random: &mut Random) -> Vec<u8> {
+    let first = random.pick(&["name", "rule", "rule", "end", "", "rules"]);
+    let mut line = first.as_bytes().to_vec();
+    for _ in 0..random.pick(&[0, 1, 1, 2, 3, 16, 17, 18]) {
+        line.push(b',');
+        line.extend(field(random));
+    }
+    line.push(b'\n');
+    line
+}
+
+fn heap_of_fields(random: &mut Random) -> Vec<u8> {
+    let count = random.below(6);
+    let mut file: Vec<u8> = (0..count).flat_map(|_| line_of_fields(random)).collect();
+    if random.chance(3, 4) {
+        file.extend(b"end\n");
+    }
+    file
+}
+
+/// Files at the edges of every limit, and of every number from 1 to 9.
+pub fn edge_files() -> Vec<Vec<u8>> {
+    let names = |count: usize| -> String { (0..count).map(|n| format!("name,n{n}\n")).collect() };
+    let rules = |count: usize| "rule,n0\n".repeat(count);
+    let body = |count: usize| format!("rule,n0{}\n", ",~-n0".repeat(count));
+    let bodies = body(16).repeat(128);
+    let long_name = |length: usize| "x".repeat(length);
+    let mut files = Vec::new();
+    for count in [0, 1, 127, 128, 129, 130] {
+        files.push(names(count) + "end\n");
+    }
+    files.push(names(128) + "name,n0\nend\n");
+    for count in [511, 512, 513] {
+        files.push(names(1) + &rules(count) + "end\n");
+        files.push(names(1) + &rules(count) + "rule,absent\nend\n");
+    }
+    for count in [15, 16, 17, 18, 600] {
+        files.push(names(1) + &body(count) + "end\n");
+    }
+    for more in [body(0), body(1), body(16)] {
+        files.push(names(1) + &bodies + &more + "end\n");
+    }
+    files.push(names(1) + &body(15) + &body(16).repeat(127) + &body(2) + "end\n");
+    for length in [0, 1, 15, 16, 17, 18, 255, 256, 257, 300] {
+        let name = long_name(length);
+        files.push(format!("name,{name}\nrule,{name},~-{name}\nend\n"));
+        files.push(format!("name,a\nrule,a,{name}\nend\n"));
+        files.push(format!("name,a\nrule,-{name}\nend\n"));
+    }
+    for length in [
+        59_999, 60_000, 60_001, 60_002, 65_535, 65_536, 65_537, 70_000,
+    ] {
+        files.push(",".repeat(length - 1) + "\n");
+        files.push("\n".repeat(length));
+        files.push("end\n".to_string() + &"x".repeat(length - 5) + "\n");
+        files.push("a".repeat(length));
+        files.push("end\n".to_string() + &"\u{7f}".repeat(length - 4));
+    }
+    let mut files: Vec<Vec<u8>> = files.into_iter().map(String::into_bytes).collect();
+    for byte in 0..=255 {
+        files.push([b"name,a", &[byte][..], b"\nend\n"].concat());
+        files.push([b"name,", &[byte][..], b"\nend\n"].concat());
+        files.push(vec![byte]);
+    }
+    files
+}
+
+/// One call on a lesson.
+#[derive(Clone, PartialEq, Eq)]
+pub enum Call {
+    Load(Vec<u8>),
+    PutIn(usize),
+    TakeOut(usize),
+    Verdict(usize),
+    Search(Question),
+    Model,
+    /// A listing into a buffer that is this many bytes longer (or shorter) than the listing.
+    Listing {
+        margin: isize,
+    },
+}
+
+impl fmt::Debug for Call {
+    fn fmt(&self, f: &mut fmt::Formatter<'_>) -> fmt::Result {
+        match self {
+            Call::Load(file) => write!(f, "load \"{}\"", file.escape_ascii()),
+            Call::PutIn(literal) => write!(f, "put in {literal}"),
+            Call::TakeOut(literal) => write!(f, "take out {literal}"),
+            Call::Verdict(literal) => write!(f, "verdict {literal}"),
+            Call::Search(q) => {
+                let tilde = if q.default { "~" } else { "" };
+                write!(f, "{:?}-search {tilde}{}", q.tree, q.literal)
+            }
+            Call::Model => write!(f, "model"),
+            Call::Listing { margin } => write!(f, "listing, buffer longer by {margin}"),
+        }
+    }
+}
+
+/// A list of calls on one lesson. Files are small, most of them load, and most literals are the
+/// book's.
+pub fn calls(random: &mut Random, size: Size) -> Vec<Call> {
+    let mut calls = Vec::new();
+    // A few lists start with calls on a lesson that has no book.
+    if random.chance(7, 8) {
+        calls.push(Call::Load(book(random, size).to_file().into_bytes()));
+    }
+    for _ in 0..random.between(1, 24) {
+        calls.push(call(random, size));
+    }
+    calls
+}
+
+fn call(random: &mut Random, size: Size) -> Call {
+    match random.below(24) {
+        0 => Call::Load(file(random, size)),
+        1..=7 => Call::PutIn(any_literal(random, size)),
+        8..=12 => Call::TakeOut(any_literal(random, size)),
+        13..=15 => Call::Verdict(any_literal(random, size)),
+        16..=19 => Call::Search(Question {
+            literal: any_literal(random, size),
+            default: random.chance(1, 2),
+            tree: random.pick(&[Tree::T, Tree::TU]),
+        }),
+        20..=21 => Call::Model,
+        _ => Call::Listing {
+            margin: random.pick(&[0, 0, 1, 7, -1, -1, -5, -10_000, 300]),
+        },
+    }
+}
+
+/// A literal number, at times one that no book has.
+fn any_literal(random: &mut Random, size: Size) -> usize {
+    const EDGES: &[usize] = &[
+        127,
+        128,
+        254,
+        255,
+        256,
+        257,
+        65_535,
+        65_536,
+        1 << 32,
+        usize::MAX - 1,
+        usize::MAX,
+    ];
+    if random.chance(1, 24) {
+        return random.pick(EDGES);
+    }
+    random.below(2 * size.names + 1)
+}
+
+#[cfg(test)]
+mod tests {
+    use super::*;
+    use crate::second::read;
+
+    #[test]
+    fn a_generated_book_is_read_as_itself() {
+        let mut random = Random::new(1);
+        for _ in 0..2_000 {
+            let small = book(&mut random, SMALL);
+            assert_eq!(read(small.to_file().as_bytes()), Ok(small));
+        }
+        for _ in 0..20 {
+            let full = full_book(&mut random);
+            assert_eq!(full.body_literals(), MOST_BODY_LITERALS);
+            assert_eq!(read(full.to_file().as_bytes()), Ok(full));
+        }
+    }
+
+    #[test]
+    fn files_meet_every_number_that_lines_can_meet() {
+        let mut random = Random::new(2);
+        let mut met = [0usize; 10];
+        for _ in 0..20_000 {
+            match read(&file(&mut random, SMALL)) {
+                Ok(_) => met[0] += 1,
+                Err(refused) => met[usize::from(refused.number())] += 1,
+            }
+        }
+        // Numbers 1 and 8 need a large file.
+        for number in [0, 2, 3, 4, 5, 6, 7, 9] {
+            assert!(met[number] > 20, "number {number} was met {met:?}");
+        }
+    }
+}

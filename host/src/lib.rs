@@ -1,0 +1,19 @@
+//! The Rust side of the marking engine.
+//!
+//! - [`answer`]: verdicts, models and refusals, the words that both implementations answer in.
+//! - [`second`]: a second implementation, written from document 01 and not from the engine's code.
+//! - [`gen`]: books, files and lists of calls from a seed.
+//! - [`shrink`] and [`compare`]: run a list of calls on two desks, and find a short list that
+//!   shows a difference.
+//! - `engine`: the proved engine behind a safe type (feature `engine`).
+
+pub mod answer;
+pub mod compare;
+#[cfg(feature = "engine")]
+pub mod engine;
+#[cfg(feature = "engine")]
+mod exports;
+pub mod gen;
+pub mod second;
+pub mod shrink;
+pub mod stack;

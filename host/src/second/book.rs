@@ -1,0 +1,78 @@
+//! A marking book (document 01, "The marking file").
+
+pub const MOST_BYTES: usize = 60_000;
+pub const MOST_NAMES: usize = 128;
+pub const MOST_RULES: usize = 512;
+/// Body literals of all rules together.
+pub const MOST_BODY_LITERALS: usize = 2_048;
+/// Body literals of one rule.
+pub const MOST_IN_A_BODY: usize = 16;
+/// Bytes of a name.
+pub const MOST_LETTERS: usize = 16;
+
+/// The other objective literal of the same name.
+pub fn complement(literal: usize) -> usize {
+    if literal % 2 == 0 {
+        literal + 1
+    } else {
+        literal - 1
+    }
+}
+
+/// A body literal: an objective literal, by default negated where `~` stands before it.
+#[derive(Clone, Copy, Debug, PartialEq, Eq)]
+pub struct Entry {
+    pub literal: usize,
+    pub default: bool,
+}
+
+#[derive(Clone, Debug, PartialEq, Eq)]
+pub struct Rule {
+    pub head: usize,
+    pub body: Vec<Entry>,
+}
+
+/// The names and rules of a file, in file order.
+#[derive(Clone, Debug, Default, PartialEq, Eq)]
+pub struct Book {
+    pub names: Vec<String>,
+    pub rules: Vec<Rule>,
+}
+
+impl Book {
+    /// How many objective literals the book has.
+    pub fn literals(&self) -> usize {
+        2 * self.names.len()
+    }
+
+    pub fn body_literals(&self) -> usize {
+        self.rules.iter().map(|rule| rule.body.len()).sum()
+    }
+
+    /// The number of a declared name.
+    pub fn number_of(&self, name: &str) -> Option<usize> {
+        self.names.iter().position(|declared| declared == name)
+    }
+
+    /// The marking file that this book is read from.
+    pub fn to_file(&self) -> String {
+        let mut file = String::new();
+        for name in &self.names {
+            file += &format!("name,{name}\n");
+        }
+        for rule in &self.rules {
+            file += &format!("rule,{}", self.spelt(rule.head, false));
+            for entry in &rule.body {
+                file += &format!(",{}", self.spelt(entry.literal, entry.default));
+            }
+            file.push('\n');
+        }
+        file + "end\n"
+    }
+
+    fn spelt(&self, literal: usize, default: bool) -> String {
+        let tilde = if default { "~" } else { "" };
+        let minus = if literal % 2 == 1 { "-" } else { "" };
+        format!("{tilde}{minus}{}", self.names[literal / 2])
+    }
+}

@@ -1,0 +1,109 @@
+//! The calls on one lesson (document 01, "When a call is turned down by the state").
+
+use super::book::Book;
+use super::listing::listing;
+use super::model::{contradictory_name, verdict, Program};
+use super::reader::read;
+use super::trees::search;
+use crate::answer::{Model, Question, Refused, Verdict};
+use std::collections::BTreeSet;
+
+/// A lesson: a book, once one is loaded, and the facts put in.
+#[derive(Clone, Debug, Default, PartialEq, Eq)]
+pub struct Lesson {
+    book: Option<Book>,
+    facts: BTreeSet<usize>,
+}
+
+impl Lesson {
+    /// A fresh lesson, with no book and no facts.
+    pub fn fresh() -> Lesson {
+        Lesson::default()
+    }
+
+    /// The book, once one is loaded.
+    pub fn book(&self) -> Option<&Book> {
+        self.book.as_ref()
+    }
+
+    /// The facts put in.
+    pub fn facts(&self) -> &BTreeSet<usize> {
+        &self.facts
+    }
+
+    /// Makes a file's names and rules the book, and empties the facts.
+    pub fn load(&mut self, file: &[u8]) -> Result<(), Refused> {
+        self.book = Some(read(file)?);
+        self.facts.clear();
+        Ok(())
+    }
+
+    pub fn put_in(&mut self, literal: usize) -> Result<(), Refused> {
+        self.book_with(literal)?;
+        if !self.facts.insert(literal) {
+            return Err(Refused::PutInNow);
+        }
+        Ok(())
+    }
+
+    pub fn take_out(&mut self, literal: usize) -> Result<(), Refused> {
+        self.book_with(literal)?;
+        if !self.facts.remove(&literal) {
+            return Err(Refused::NotPutIn);
+        }
+        Ok(())
+    }
+
+    pub fn verdict(&self, literal: usize) -> Result<Verdict, Refused> {
+        let book = self.book_with(literal)?;
+        let halves = Program::new(book, &self.facts).halves();
+        if contradictory_name(&halves).is_some() {
+            return Err(Refused::Contradictory);
+        }
+        Ok(verdict(&halves, literal))
+    }
+
+    /// The answer to a question, or nothing where its trees have more nodes than `visits`.
+    pub fn search(&self, question: Question, visits: u64) -> Result<Option<bool>, Refused> {
+        let book = self.book_with(question.literal)?;
+        let program = Program::new(book, &self.facts);
+        Ok(search(&program, question, visits))
+    }
+
+    pub fn model(&self) -> Result<Model, Refused> {
+        let book = self.loaded()?;
+        let halves = Program::new(book, &self.facts).halves();
+        Ok(Model {
+            truths: members(&halves.truths),
+            nonfalse: members(&halves.nonfalse),
+            contradictory: contradictory_name(&halves).is_some(),
+        })
+    }
+
+    /// Writes the listing to the buffer's first bytes and answers its length.
+    pub fn listing(&self, buffer: &mut [u8]) -> Result<usize, Refused> {
+        let text = listing(self.loaded()?, &self.facts);
+        let lent = buffer
+            .get_mut(..text.len())
+            .ok_or(Refused::BufferTooShort)?;
+        lent.copy_from_slice(text.as_bytes());
+        Ok(text.len())
+    }
+
+    fn loaded(&self) -> Result<&Book, Refused> {
+        self.book.as_ref().ok_or(Refused::NoBook)
+    }
+
+    /// The book, which has a literal with this number: 20 is looked at before 21.
+    fn book_with(&self, literal: usize) -> Result<&Book, Refused> {
+        let book = self.loaded()?;
+        if literal >= book.literals() {
+            return Err(Refused::NoSuchLiteral);
+        }
+        Ok(book)
+    }
+}
+
+fn members(set: &[bool]) -> BTreeSet<usize> {
+    (0..set.len()).filter(|&literal| set[literal]).collect()
+}

@@ -1,0 +1,30 @@
+//! The listing (document 01, "The listing, whole").
+
+use super::book::Book;
+use super::model::{contradictory_name, verdict, Program};
+use super::reader::read;
+use std::collections::BTreeSet;
+
+/// The listing of a lesson.
+pub fn listing(book: &Book, facts: &BTreeSet<usize>) -> String {
+    let halves = Program::new(book, facts).halves();
+    let counts = format!("{},{},{}", book.names.len(), book.rules.len(), facts.len());
+    if let Some(name) = contradictory_name(&halves) {
+        return format!("contradiction,{counts},{}\n", book.names[name]);
+    }
+    let mut text = format!("model,{counts}\n");
+    for (number, name) in book.names.iter().enumerate() {
+        let plain = verdict(&halves, 2 * number).word();
+        let negated = verdict(&halves, 2 * number + 1).word();
+        text += &format!("{number},{name},{plain},{negated}\n");
+    }
+    text
+}
+
+/// What the listing program prints for a file.
+pub fn program_output(file: &[u8]) -> String {
+    match read(file) {
+        Ok(book) => listing(&book, &BTreeSet::new()),
+        Err(refused) => format!("refused,{},{}\n", refused.number(), refused.line()),
+    }
+}

@@ -1,0 +1,21 @@
+//! The second implementation, from document 01.
+//!
+//! It is there to be compared with, so it is plain: sets are lists of flags, trees are walked as
+//! they are defined, and nothing is left out by a theorem.
+
+mod book;
+mod desk;
+mod listing;
+mod model;
+mod reader;
+mod trees;
+
+pub use book::{complement, Book, Entry, Rule};
+pub use book::{
+    MOST_BODY_LITERALS, MOST_BYTES, MOST_IN_A_BODY, MOST_LETTERS, MOST_NAMES, MOST_RULES,
+};
+pub use desk::Lesson;
+pub use listing::{listing, program_output};
+pub use model::{contradictory_name, gamma, verdict, Halves, Program};
+pub use reader::read;
+pub use trees::{search, Walk};

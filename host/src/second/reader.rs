@@ -1,0 +1,149 @@
+//! From the bytes of a file to a book (document 01, "The marking file" and "When a call is turned
+//! down by its input").
+
+use super::book::{Book, Entry, Rule};
+use super::book::{MOST_BODY_LITERALS, MOST_BYTES, MOST_LETTERS, MOST_NAMES, MOST_RULES};
+use crate::answer::{Fault, Refused};
+
+/// The book of a file, or the number and line of its first fault.
+pub fn read(file: &[u8]) -> Result<Book, Refused> {
+    judge_whole(file).map_err(|fault| Refused::File { fault, line: 0 })?;
+    let mut reading = Reading::default();
+    let mut line = 0;
+    for text in file[..file.len() - 1].split(|&byte| byte == 10) {
+        line += 1;
+        reading
+            .take_line(text)
+            .map_err(|fault| Refused::File { fault, line })?;
+    }
+    if !reading.ended {
+        return Err(Refused::File {
+            fault: Fault::End,
+            line: line + 1,
+        });
+    }
+    Ok(reading.book)
+}
+
+/// Numbers 1 to 3, in this order.
+fn judge_whole(file: &[u8]) -> Result<(), Fault> {
+    if file.len() > MOST_BYTES {
+        return Err(Fault::TooLong);
+    }
+    if file.iter().any(|byte| !matches!(byte, 10 | 32..=126)) {
+        return Err(Fault::ForeignByte);
+    }
+    if file.last() != Some(&10) {
+        return Err(Fault::NotEnded);
+    }
+    Ok(())
+}
+
+/// What the lines so far have said.
+#[derive(Default)]
+struct Reading {
+    book: Book,
+    ended: bool,
+}
+
+impl Reading {
+    /// The faults of a line are looked for in the order 9, 4, 5, 6, 7, 8.
+    fn take_line(&mut self, text: &[u8]) -> Result<(), Fault> {
+        if self.ended {
+            return Err(Fault::End);
+        }
+        let fields: Vec<&[u8]> = text.split(|&byte| byte == b',').collect();
+        match (fields[0], fields.len()) {
+            (b"name", 2) => self.declare(fields[1]),
+            (b"rule", 2..=18) => self.add_rule(fields[1], &fields[2..]),
+            (b"end", 1) => {
+                self.ended = true;
+                Ok(())
+            }
+            _ => Err(Fault::Fields),
+        }
+    }
+
+    fn declare(&mut self, field: &[u8]) -> Result<(), Fault> {
+        let name = name_of(field)?;
+        if self.book.number_of(&name).is_some() {
+            return Err(Fault::DeclaredBefore);
+        }
+        if self.book.names.len() == MOST_NAMES {
+            return Err(Fault::TableFull);
+        }
+        self.book.names.push(name);
+        Ok(())
+    }
+
+    fn add_rule(&mut self, head: &[u8], body: &[&[u8]]) -> Result<(), Fault> {
+        // Every field is judged by 5 before any is judged by 7.
+        let head = Written::of(head)?;
+        let body: Vec<Written> = body
+            .iter()
+            .map(|field| Written::of(field))
+            .collect::<Result<_, _>>()?;
+        if head.default {
+            return Err(Fault::Malformed);
+        }
+        let head = self.entry(&head)?.literal;
+        let body: Vec<Entry> = body
+            .iter()
+            .map(|written| self.entry(written))
+            .collect::<Result<_, _>>()?;
+        if self.book.rules.len() == MOST_RULES
+            || self.book.body_literals() + body.len() > MOST_BODY_LITERALS
+        {
+            return Err(Fault::TableFull);
+        }
+        self.book.rules.push(Rule { head, body });
+        Ok(())
+    }
+
+    fn entry(&self, written: &Written) -> Result<Entry, Fault> {
+        let number = self
+            .book
+            .number_of(&written.name)
+            .ok_or(Fault::Undeclared)?;
+        Ok(Entry {
+            literal: 2 * number + usize::from(written.negated),
+            default: written.default,
+        })
+    }
+}
+
+/// A literal as a field spells it.
+struct Written {
+    default: bool,
+    negated: bool,
+    name: String,
+}
+
+impl Written {
+    fn of(field: &[u8]) -> Result<Written, Fault> {
+        let (default, rest) = without(b'~', field);
+        let (negated, rest) = without(b'-', rest);
+        Ok(Written {
+            default,
+            negated,
+            name: name_of(rest)?,
+        })
+    }
+}
+
+/// Whether a field begins with a mark, and the field behind it.
+fn without(mark: u8, field: &[u8]) -> (bool, &[u8]) {
+    match field.split_first() {
+        Some((&first, rest)) if first == mark => (true, rest),
+        _ => (false, field),
+    }
+}
+
+fn name_of(field: &[u8]) -> Result<String, Fault> {
+    let known = |byte: &u8| matches!(byte, 97..=122 | 48..=57 | 95);
+    let long_enough = (1..=MOST_LETTERS).contains(&field.len());
+    if !long_enough || !field.iter().all(known) || !matches!(field[0], 97..=122) {
+        return Err(Fault::Malformed);
+    }
+    Ok(field.iter().map(|&byte| char::from(byte)).collect())
+}

@@ -1,0 +1,71 @@
+//! Short inputs that still show a difference.
+
+use crate::gen::{lines_of, Call};
+
+/// A list that still shows what `shows` looks for, and from which no single element can be left
+/// out. Larger pieces are tried first, so that long inputs shrink fast.
+pub fn shortest<T: Clone>(list: Vec<T>, shows: &mut dyn FnMut(&[T]) -> bool) -> Vec<T> {
+    let mut list = list;
+    let mut piece = (list.len() / 2).max(1);
+    loop {
+        let before = list.len();
+        let mut from = 0;
+        while from < list.len() {
+            let to = (from + piece).min(list.len());
+            let without = [&list[..from], &list[to..]].concat();
+            if shows(&without) {
+                list = without;
+            } else {
+                from = to;
+            }
+        }
+        if piece == 1 && list.len() == before {
+            return list;
+        }
+        piece = (piece / 2).max(1);
+    }
+}
+
+/// A file from which neither a line nor a byte can be left out.
+pub fn shortest_file(file: &[u8], shows: &mut dyn FnMut(&[u8]) -> bool) -> Vec<u8> {
+    let lines = shortest(lines_of(file), &mut |lines: &[Vec<u8>]| {
+        shows(&lines.concat())
+    });
+    shortest(lines.concat(), shows)
+}
+
+/// A list of calls from which no call can be left out, nor a line or byte of a loaded file.
+pub fn shortest_calls(calls: Vec<Call>, shows: &mut dyn FnMut(&[Call]) -> bool) -> Vec<Call> {
+    let mut calls = shortest(calls, shows);
+    for place in 0..calls.len() {
+        let Call::Load(file) = calls[place].clone() else {
+            continue;
+        };
+        let mut trial = calls.clone();
+        let short = shortest_file(&file, &mut |file| {
+            trial[place] = Call::Load(file.to_vec());
+            shows(&trial)
+        });
+        calls[place] = Call::Load(short);
+    }
+    calls
+}
+
+#[cfg(test)]
+mod tests {
+    use super::*;
+
+    #[test]
+    fn what_is_left_is_what_is_needed() {
+        let list: Vec<u32> = (0..1000).collect();
+        let short = shortest(list, &mut |l| l.contains(&17) && l.contains(&801));
+        assert_eq!(short, [17, 801]);
+    }
+
+    #[test]
+    fn a_file_loses_lines_and_bytes() {
+        let file = b"name,brake\nname,axle\nrule,brake,~axle\nend\n";
+        let short = shortest_file(file, &mut |f| f.contains(&b'~') && f.contains(&b'\n'));
+        assert_eq!(short, b"~\n");
+    }
+}

@@ -1,0 +1,293 @@
+//! On random small books: the searches agree with M and N, M and N with the published notions, and
+//! the comparison of two desks finds wrong ones.
+
+use mezhkura::answer::{Model, Question, Refused, Verdict};
+use mezhkura::compare::{answer_by_model, explain, first_difference, questions, Desk};
+use mezhkura::gen::{self, Random, Size, SMALL};
+use mezhkura::second::{contradictory_name, gamma, Lesson, Program};
+use mezhkura::stack::with_search_stack;
+use std::collections::BTreeSet;
+
+/// The seed of the random books; another can be set by hand.
+fn seed() -> u64 {
+    match std::env::var("MEZHKURA_SEED") {
+        Ok(text) => text.parse().expect("MEZHKURA_SEED is a number"),
+        Err(_) => 20_261,
+    }
+}
+
+fn random_lesson(random: &mut Random, size: Size) -> Lesson {
+    let mut lesson = Lesson::fresh();
+    let book = gen::book(random, size);
+    lesson
+        .load(book.to_file().as_bytes())
+        .expect("a generated book loads");
+    for _ in 0..random.below(3) {
+        // A literal put in twice, or one of a book with no names, is refused: that is no matter.
+        let _ = lesson.put_in(random.below(book.literals()));
+    }
+    lesson
+}
+
+fn file_of(lesson: &Lesson) -> String {
+    let book = lesson.book().expect("a book is loaded");
+    format!("{}facts {:?}", book.to_file(), lesson.facts())
+}
+
+#[test]
+fn searches_agree_with_m_and_n() {
+    let mut random = Random::new(seed());
+    let (mut asked, mut unended, mut contradictory) = (0, 0, 0);
+    for _ in 0..6_000 {
+        let lesson = random_lesson(&mut random, SMALL);
+        let model = lesson.model().expect("a book is loaded");
+        contradictory += usize::from(model.contradictory);
+        let literals = lesson.book().map_or(0, |book| book.literals());
+        for question in (0..literals).flat_map(questions) {
+            let expected = answer_by_model(question, &model);
+            match lesson.search(question, 100_000) {
+                Ok(Some(answer)) => {
+                    assert_eq!(answer, expected, "{question:?} of\n{}", file_of(&lesson))
+                }
+                Ok(None) => unended += 1,
+                Err(refused) => panic!("{question:?} is refused: {refused}"),
+            }
+            asked += 1;
+        }
+    }
+    println!("{asked} searches, {unended} not ended, {contradictory} contradictory lessons");
+    assert!(unended * 100 < asked, "{unended} of {asked} didn't end");
+    assert!(contradictory > 500, "{contradictory} were contradictory");
+}
+
+/// Every set of literals below a bound, as flags.
+fn every_set(literals: usize) -> impl Iterator<Item = Vec<bool>> {
+    (0..1usize << literals).map(move |bits| (0..literals).map(|l| bits >> l & 1 == 1).collect())
+}
+
+/// Γ(S) by its definition: the intersection of all sets closed under the rules that S keeps.
+fn gamma_by_definition(program: &Program, s: &[bool]) -> Vec<bool> {
+    let closed = |set: &[bool]| {
+        program.rules.iter().all(|rule| {
+            let applies = rule.body.iter().all(|entry| {
+                if entry.default {
+                    !s[entry.literal]
+                } else {
+                    set[entry.literal]
+                }
+            });
+            !applies || set[rule.head]
+        })
+    };
+    every_set(program.literals)
+        .filter(|set| closed(set))
+        .reduce(|one, other| one.iter().zip(&other).map(|(a, b)| *a && *b).collect())
+        .expect("the set of all literals is closed")
+}
+
+/// 001, definition 2: T = ΓΓs(T), and T has no literal in common with the literals outside Γs(T).
+fn partial_stable(program: &Program, truths: &[bool]) -> bool {
+    let nonfalse = gamma(&program.seminormal(), truths);
+    let coherent = truths.iter().zip(&nonfalse).all(|(t, n)| !t || *n);
+    coherent && gamma(program, &nonfalse) == truths
+}
+
+#[test]
+fn model_is_the_published_one() {
+    let size = Size {
+        names: 3,
+        rules: 7,
+        body: 3,
+    };
+    let mut random = Random::new(seed() + 1);
+    for _ in 0..400 {
+        let lesson = random_lesson(&mut random, size);
+        let book = lesson.book().expect("a book is loaded");
+        let program = Program::new(book, lesson.facts());
+        let seminormal = program.seminormal();
+        let halves = program.halves();
+        let context = || file_of(&lesson);
+        assert_eq!(
+            gamma(&program, &halves.nonfalse),
+            gamma_by_definition(&program, &halves.nonfalse),
+            "{}",
+            context()
+        );
+        assert_eq!(
+            halves.nonfalse,
+            gamma_by_definition(&seminormal, &halves.truths),
+            "{}",
+            context()
+        );
+        // M is inside every fixpoint, and no partial stable model exists exactly where M holds
+        // both literals of a name.
+        let fixpoint = |s: &Vec<bool>| gamma(&program, &gamma(&seminormal, s)) == *s;
+        let inside = |s: &Vec<bool>| halves.truths.iter().zip(s).all(|(m, x)| !m || *x);
+        assert!(fixpoint(&halves.truths), "{}", context());
+        assert!(
+            every_set(program.literals)
+                .filter(fixpoint)
+                .all(|s| inside(&s)),
+            "{}",
+            context()
+        );
+        let has_model = every_set(program.literals).any(|s| partial_stable(&program, &s));
+        assert_eq!(
+            has_model,
+            contradictory_name(&halves).is_none(),
+            "{}",
+            context()
+        );
+    }
+}
+
+/// A desk that is the second implementation, but for one thing that it does wrong.
+struct Wrong {
+    lesson: Lesson,
+    how: How,
+}
+
+#[derive(Clone, Copy, Debug, PartialEq)]
+enum How {
+    NotAtAll,
+    PutInStoresNothing,
+    SearchSaysNo,
+    ShortBufferOfALongOne,
+    WritesPastTheListing,
+    ModelOfTheBookAlone,
+    VerdictOfAContradiction,
+    LoadKeepsFacts,
+}
+
+impl Desk for Wrong {
+    fn load(&mut self, file: &[u8]) -> Result<(), Refused> {
+        let facts = self.lesson.facts().clone();
+        self.lesson.load(file)?;
+        if self.how == How::LoadKeepsFacts {
+            facts.into_iter().for_each(|fact| {
+                let _ = self.lesson.put_in(fact);
+            });
+        }
+        Ok(())
+    }
+
+    fn put_in(&mut self, literal: usize) -> Result<(), Refused> {
+        match self.how {
+            How::PutInStoresNothing => self.lesson.clone().put_in(literal),
+            _ => self.lesson.put_in(literal),
+        }
+    }
+
+    fn take_out(&mut self, literal: usize) -> Result<(), Refused> {
+        self.lesson.take_out(literal)
+    }
+
+    fn verdict(&self, literal: usize) -> Result<Verdict, Refused> {
+        match self.lesson.verdict(literal) {
+            Err(Refused::Contradictory) if self.how == How::VerdictOfAContradiction => {
+                Ok(Verdict::True)
+            }
+            answer => answer,
+        }
+    }
+
+    fn search(&self, question: Question) -> Result<bool, Refused> {
+        let answer = self.lesson.search(question, u64::MAX)?;
+        Ok(self.how != How::SearchSaysNo && answer.expect("no bound on visits"))
+    }
+
+    fn model(&self) -> Result<Model, Refused> {
+        if self.how != How::ModelOfTheBookAlone {
+            return self.lesson.model();
+        }
+        let mut alone = Lesson::fresh();
+        if let Some(book) = self.lesson.book() {
+            alone.load(book.to_file().as_bytes())?;
+        }
+        alone.model()
+    }
+
+    fn listing(&self, buffer: &mut [u8]) -> Result<usize, Refused> {
+        let length = buffer.len();
+        match self.how {
+            How::ShortBufferOfALongOne if length > 30 && self.lesson.book().is_some() => {
+                Err(Refused::BufferTooShort)
+            }
+            How::WritesPastTheListing => {
+                let written = self.lesson.listing(buffer)?;
+                buffer[written..].fill(0);
+                Ok(written)
+            }
+            _ => self.lesson.listing(buffer),
+        }
+    }
+}
+
+fn random_lists(how: How, lists: usize) -> Option<String> {
+    let fresh = || Wrong {
+        lesson: Lesson::fresh(),
+        how,
+    };
+    let mut random = Random::new(seed() + 2);
+    for _ in 0..lists {
+        let calls = gen::calls(&mut random, SMALL);
+        if first_difference(&calls, &mut fresh()).is_some() {
+            return Some(explain(calls, fresh));
+        }
+    }
+    None
+}
+
+#[test]
+fn a_desk_that_agrees_is_found_to_agree() {
+    assert_eq!(random_lists(How::NotAtAll, 1_000), None);
+}
+
+#[test]
+fn wrong_desks_are_found_and_explained_in_few_calls() {
+    for how in [
+        How::PutInStoresNothing,
+        How::SearchSaysNo,
+        How::ShortBufferOfALongOne,
+        How::WritesPastTheListing,
+        How::ModelOfTheBookAlone,
+        How::VerdictOfAContradiction,
+        How::LoadKeepsFacts,
+    ] {
+        let text = random_lists(how, 2_000).unwrap_or_else(|| panic!("{how:?} wasn't found"));
+        println!("{how:?}: {text}");
+        let calls = text.lines().filter(|line| line.starts_with("  ")).count();
+        assert!(calls <= 4, "{how:?} takes {calls} calls:\n{text}");
+    }
+}
+
+/// A ladder of `n` and `n` names is as deep as n squared: the room for deep searches holds it.
+#[test]
+fn a_deep_search_has_room() {
+    let n = 40;
+    let mut file: String = (0..n).map(|k| format!("name,x{k}\nname,y{k}\n")).collect();
+    for k in 0..n {
+        file += &format!("rule,y{k},~x0\n");
+        if k + 1 < n {
+            file += &format!("rule,x{k},x{}\n", k + 1);
+        }
+    }
+    for from in (0..n).step_by(16) {
+        let leaves: String = (from..n.min(from + 16))
+            .map(|k| format!(",~y{k}"))
+            .collect();
+        file += &format!("rule,x{}{leaves}\n", n - 1);
+    }
+    file += "end\n";
+    let mut lesson = Lesson::fresh();
+    lesson.load(file.as_bytes()).expect("the file loads");
+    let facts = BTreeSet::new();
+    let program = Program::new(lesson.book().expect("a book is loaded"), &facts);
+    let deepest = with_search_stack(|| {
+        let mut walk = mezhkura::second::Walk::new(&program, 100_000);
+        let question = questions(0).nth(1).expect("the TU-search of x0");
+        walk.ask(question);
+        walk.deepest
+    });
+    assert!(deepest > 500, "the walk was {deepest} nodes deep");
+}

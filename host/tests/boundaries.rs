@@ -1,0 +1,323 @@
+//! The edges that document 01 names under "Run", and every refusal number with its line.
+
+use mezhkura::answer::{Question, Refused, Tree, Verdict};
+use mezhkura::second::{program_output, Lesson};
+
+fn declared(names: usize) -> String {
+    (0..names).map(|n| format!("name,n{n}\n")).collect()
+}
+
+fn file_with_names(names: usize) -> String {
+    declared(names) + "end\n"
+}
+
+fn file_with_rules(rules: usize) -> String {
+    format!("name,a\n{}end\n", "rule,a\n".repeat(rules))
+}
+
+/// A rule with so many body literals.
+fn rule_line(body: usize) -> String {
+    format!("rule,a{}\n", ",~-a".repeat(body))
+}
+
+fn file_with_body(body: usize) -> String {
+    format!("name,a\n{}end\n", rule_line(body))
+}
+
+/// A file with 128 rules of 16 body literals, and more lines behind them.
+fn file_with_2048_body_literals(more: &str) -> String {
+    format!("name,a\n{}{more}end\n", rule_line(16).repeat(128))
+}
+
+fn refused(number: u8, line: usize) -> String {
+    format!("refused,{number},{line}\n")
+}
+
+fn assert_loads(file: &str, names: usize, rules: usize) {
+    let output = program_output(file.as_bytes());
+    let header = format!("model,{names},{rules},0\n");
+    assert!(output.starts_with(&header), "{output}");
+}
+
+fn assert_refused(file: impl AsRef<[u8]>, number: u8, line: usize) {
+    let file = file.as_ref();
+    assert_eq!(
+        program_output(file),
+        refused(number, line),
+        "of \"{}\"",
+        file.escape_ascii()
+    );
+}
+
+#[test]
+fn names_128_and_129() {
+    assert_loads(&file_with_names(128), 128, 0);
+    assert_refused(file_with_names(129), 8, 129);
+}
+
+#[test]
+fn rules_512_and_513() {
+    assert_loads(&file_with_rules(512), 1, 512);
+    assert_refused(file_with_rules(513), 8, 514);
+}
+
+#[test]
+fn body_literals_16_and_17() {
+    assert_loads(&file_with_body(16), 1, 1);
+    assert_refused(file_with_body(17), 4, 2);
+}
+
+#[test]
+fn body_literals_in_all_2048_and_2049() {
+    assert_loads(&file_with_2048_body_literals(""), 1, 128);
+    assert_loads(&file_with_2048_body_literals("rule,a\n"), 1, 129);
+    assert_refused(file_with_2048_body_literals("rule,a,a\n"), 8, 130);
+}
+
+#[test]
+fn name_lengths_16_and_17() {
+    let name = |length: usize| "x".repeat(length);
+    for length in [1, 16] {
+        let file = format!("name,{0}\nrule,{0},~-{0}\nend\n", name(length));
+        assert_loads(&file, 1, 1);
+    }
+    assert_refused(format!("name,{}\nend\n", name(17)), 5, 1);
+    assert_refused(format!("name,a\nrule,a,~-{}\nend\n", name(17)), 5, 2);
+    // A name of the right length that isn't declared is another fault.
+    assert_refused(format!("name,a\nrule,a,~-{}\nend\n", name(16)), 7, 2);
+}
+
+#[test]
+fn bytes_60000_and_60001() {
+    // A line of commas has too many fields, so the whole file is looked at and then line 1.
+    let commas = |bytes: usize| ",".repeat(bytes - 1) + "\n";
+    assert_refused(commas(60_000), 4, 1);
+    assert_refused(commas(60_001), 1, 0);
+    // Behind `end`, the second line is what is wrong.
+    let after_end = |bytes: usize| "end\n".to_string() + &" ".repeat(bytes - 5) + "\n";
+    assert_refused(after_end(60_000), 9, 2);
+    assert_refused(after_end(60_001), 1, 0);
+}
+
+/// The longest file that loads is shorter than 60,000 bytes.
+#[test]
+fn the_longest_book_loads() {
+    let name = |n: usize| format!("{:x<16}", format!("n{n}_"));
+    let mut file: String = (0..128).map(|n| format!("name,{}\n", name(n))).collect();
+    for rule in 0..512 {
+        file += &format!("rule,-{}", name(rule % 128));
+        for entry in 0..4 {
+            file += &format!(",~-{}", name((rule + entry) % 128));
+        }
+        file.push('\n');
+    }
+    file += "end\n";
+    assert_eq!(file.len(), 53_508);
+    let mut lesson = Lesson::fresh();
+    assert_eq!(lesson.load(file.as_bytes()), Ok(()));
+    let book = lesson.book().expect("a book is loaded");
+    assert_eq!((book.names.len(), book.rules.len()), (128, 512));
+    assert_eq!(book.body_literals(), 2_048);
+}
+
+#[test]
+fn number_1_comes_before_2_and_3() {
+    let mut file = vec![b'a'; 60_001];
+    assert_refused(&file, 1, 0);
+    file[0] = 0;
+    assert_refused(&file, 1, 0);
+    file.pop();
+    assert_refused(&file, 2, 0);
+    file[0] = b'a';
+    assert_refused(&file, 3, 0);
+}
+
+#[test]
+fn number_2_is_given_for_bytes_outside_10_and_32_to_126() {
+    for byte in 0..=255u8 {
+        let file = [b"name,", &[byte][..], b"\nend\n"].concat();
+        let expected = match byte {
+            b'a'..=b'z' => "model,1,0,0\n0,".to_string(),
+            10 => refused(5, 1),
+            b',' => refused(4, 1),
+            32..=126 => refused(5, 1),
+            _ => refused(2, 0),
+        };
+        assert!(program_output(&file).starts_with(&expected), "byte {byte}");
+    }
+    assert_refused(b"\xFF", 2, 0);
+}
+
+#[test]
+fn number_3_is_given_for_no_bytes_and_for_no_last_newline() {
+    assert_refused("", 3, 0);
+    assert_refused("end", 3, 0);
+    assert_refused("name,a\nend", 3, 0);
+    assert_refused("nonsense", 3, 0);
+}
+
+#[test]
+fn number_4_is_given_for_first_fields_and_counts() {
+    for line in [
+        "", " ", ",", "names,a", "nam,a", "Name,a", " name,a", "name", "name,a,b", "name,a,",
+        "rule", "end,", "end ", "ends", "en", "end,end", "model,1",
+    ] {
+        assert_refused(format!("{line}\nend\n"), 4, 1);
+    }
+    assert_loads("name,a\nrule,a\nend\n", 1, 1);
+}
+
+#[test]
+fn number_5_is_given_for_names_and_literals() {
+    for field in [
+        "", "9a", "_a", "A", "aB", "a-", "a b", " a", "a ", "-", "-a", "~a", "a.b",
+    ] {
+        assert_refused(format!("name,{field}\nend\n"), 5, 1);
+    }
+    for field in [
+        "", "~", "-", "~-", "~~a", "--a", "-~a", "~-~a", "~ a", "a~", "A", "9", "~-A",
+    ] {
+        assert_refused(format!("name,a\nrule,a,{field}\nend\n"), 5, 2);
+        assert_refused(format!("name,a\nrule,{field}\nend\n"), 5, 2);
+    }
+    assert_refused("name,a\nrule,~a\nend\n", 5, 2);
+    assert_refused("name,a\nrule,~-a,a\nend\n", 5, 2);
+    assert_loads("name,a\nrule,-a,a,~a,-a,~-a\nend\n", 1, 1);
+    assert_loads("name,z_09\nend\n", 1, 0);
+}
+
+#[test]
+fn number_6_is_given_for_a_name_declared_before() {
+    assert_refused("name,a\nname,b\nname,a\nend\n", 6, 3);
+    assert_refused(declared(128) + "name,n0\nend\n", 6, 129);
+}
+
+#[test]
+fn number_7_is_given_for_a_name_declared_later_or_never() {
+    assert_refused("rule,a\nname,a\nend\n", 7, 1);
+    assert_refused("name,a\nrule,a,b\nend\n", 7, 2);
+    assert_refused("name,a\nrule,-b\nend\n", 7, 2);
+    assert_refused("name,a\nrule,a,~-b\nname,b\nend\n", 7, 2);
+    // A malformed field comes before an undeclared name to its left.
+    assert_refused("name,a\nrule,b,A\nend\n", 5, 2);
+    // An undeclared name comes before a full table.
+    assert_refused(
+        format!("name,a\n{}rule,b\nend\n", "rule,a\n".repeat(512)),
+        7,
+        514,
+    );
+}
+
+#[test]
+fn number_9_is_given_after_end_and_without_it() {
+    assert_refused("\n", 4, 1);
+    assert_refused("name,a\n", 9, 2);
+    assert_refused("name,a\nrule,a\n", 9, 3);
+    assert_refused("end\nend\n", 9, 2);
+    assert_refused("end\n\n", 9, 2);
+    assert_refused("end\nnonsense\n\n", 9, 2);
+    assert_refused("name,a\nend\nname,a\n", 9, 3);
+    // A fault of an earlier line decides.
+    assert_refused("name,A\nend\nname,a\n", 5, 1);
+    assert_refused("name,A\n", 5, 1);
+}
+
+fn lesson(file: &str) -> Lesson {
+    let mut lesson = Lesson::fresh();
+    lesson.load(file.as_bytes()).expect("the file loads");
+    lesson
+}
+
+fn question(literal: usize) -> Question {
+    Question {
+        literal,
+        default: true,
+        tree: Tree::TU,
+    }
+}
+
+#[test]
+fn number_20_comes_before_21_and_25() {
+    let mut fresh = Lesson::fresh();
+    assert_eq!(fresh.put_in(999), Err(Refused::NoBook));
+    assert_eq!(fresh.take_out(0), Err(Refused::NoBook));
+    assert_eq!(fresh.verdict(0), Err(Refused::NoBook));
+    assert_eq!(fresh.search(question(0), 10), Err(Refused::NoBook));
+    assert_eq!(fresh.model(), Err(Refused::NoBook));
+    assert_eq!(fresh.listing(&mut []), Err(Refused::NoBook));
+    assert!(fresh.load(b"nonsense\n").is_err());
+    assert_eq!(fresh, Lesson::fresh());
+}
+
+#[test]
+fn number_21_is_given_from_twice_the_names_on() {
+    for names in [0, 1, 64, 128] {
+        let mut lesson = lesson(&file_with_names(names));
+        let edge = 2 * names;
+        if names > 0 {
+            assert_eq!(lesson.verdict(edge - 1), Ok(Verdict::False));
+            assert_eq!(lesson.search(question(edge - 1), 10), Ok(Some(true)));
+            assert_eq!(lesson.put_in(edge - 1), Ok(()));
+            assert_eq!(lesson.take_out(edge - 1), Ok(()));
+        }
+        for literal in [edge, edge + 1, usize::MAX] {
+            assert_eq!(lesson.verdict(literal), Err(Refused::NoSuchLiteral));
+            assert_eq!(lesson.put_in(literal), Err(Refused::NoSuchLiteral));
+            assert_eq!(lesson.take_out(literal), Err(Refused::NoSuchLiteral));
+            let asked = lesson.search(question(literal), 10);
+            assert_eq!(asked, Err(Refused::NoSuchLiteral));
+        }
+    }
+}
+
+#[test]
+fn numbers_22_and_23_look_at_what_is_put_in_now() {
+    let mut lesson = lesson("name,a\nrule,a\nend\n");
+    assert_eq!(lesson.take_out(0), Err(Refused::NotPutIn));
+    assert_eq!(lesson.put_in(0), Ok(()));
+    assert_eq!(lesson.put_in(0), Err(Refused::PutInNow));
+    assert_eq!(lesson.put_in(1), Ok(()));
+    assert_eq!(lesson.take_out(0), Ok(()));
+    assert_eq!(lesson.take_out(0), Err(Refused::NotPutIn));
+    assert_eq!(lesson.facts().len(), 1);
+}
+
+#[test]
+fn number_24_is_given_to_a_verdict_after_21_and_to_nothing_else() {
+    let mut lesson = lesson("name,a\nrule,a\nrule,-a\nend\n");
+    assert_eq!(lesson.verdict(2), Err(Refused::NoSuchLiteral));
+    assert_eq!(lesson.verdict(1), Err(Refused::Contradictory));
+    assert_eq!(lesson.search(question(1), 100), Ok(Some(false)));
+    assert!(lesson.model().is_ok_and(|model| model.contradictory));
+    assert_eq!(lesson.put_in(0), Ok(()));
+    assert_eq!(lesson.listing(&mut [0; 40]), Ok(22));
+}
+
+#[test]
+fn number_25_is_given_to_a_buffer_one_byte_short() {
+    for file in ["end\n", "name,a\nend\n", "name,a\nrule,a\nrule,-a\nend\n"] {
+        let lesson = lesson(file);
+        let text = program_output(file.as_bytes()).into_bytes();
+        let mut exact = vec![7; text.len()];
+        assert_eq!(lesson.listing(&mut exact), Ok(text.len()));
+        assert_eq!(exact, text);
+        let mut short = vec![7; text.len() - 1];
+        assert_eq!(lesson.listing(&mut short), Err(Refused::BufferTooShort));
+        assert_eq!(short, vec![7; text.len() - 1]);
+        let mut long = vec![7; text.len() + 2];
+        assert_eq!(lesson.listing(&mut long), Ok(text.len()));
+        assert_eq!(long, [&text[..], &[7, 7]].concat());
+    }
+}
+
+#[test]
+fn a_load_empties_the_facts_and_a_refused_one_changes_nothing() {
+    let mut lesson = lesson("name,a\nend\n");
+    lesson.put_in(0).expect("the literal is the book's");
+    let before = lesson.clone();
+    assert!(lesson.load(b"name,b\n").is_err());
+    assert_eq!(lesson, before);
+    assert_eq!(lesson.load(b"name,b\nend\n"), Ok(()));
+    assert!(lesson.facts().is_empty());
+    assert_eq!(lesson.verdict(0), Ok(Verdict::False));
+}

@@ -1,0 +1,170 @@
+//! The short books of document 01, and its readings that lead astray.
+
+use mezhkura::answer::{Question, Refused, Tree, Verdict};
+use mezhkura::second::{gamma, program_output, read, Lesson, Program};
+use std::collections::BTreeSet;
+use Verdict::{False, True, Undefined};
+
+const CASE_1: &str = "name,moving
+name,locked
+name,fault
+name,stalled
+rule,moving,~locked
+rule,locked,~moving
+rule,fault,moving,~stalled
+rule,-locked
+rule,stalled,~stalled
+end
+";
+
+const CASE_5: &str = "name,a\nname,b\nrule,a,~b\nrule,b,~a\nrule,-a\nend\n";
+const CASE_6: &str = "name,f\nname,s\nname,d\nrule,f,s\nrule,s,~d\nrule,d,~d\nrule,-s\nend\n";
+
+fn lesson(file: &str) -> Lesson {
+    let mut lesson = Lesson::fresh();
+    lesson.load(file.as_bytes()).expect("the file loads");
+    lesson
+}
+
+fn verdicts(lesson: &Lesson) -> Vec<Verdict> {
+    let literals = lesson.book().expect("a book is loaded").literals();
+    (0..literals)
+        .map(|literal| lesson.verdict(literal).expect("the lesson has verdicts"))
+        .collect()
+}
+
+fn says(lesson: &Lesson, tree: Tree, literal: usize) -> bool {
+    let question = Question {
+        literal,
+        default: false,
+        tree,
+    };
+    lesson
+        .search(question, 100_000)
+        .expect("the literal is the book's")
+        .expect("the trees end")
+}
+
+#[test]
+fn case_1_lists_as_printed() {
+    let expected = "model,4,5,0
+0,moving,true,false
+1,locked,false,true
+2,fault,undefined,false
+3,stalled,undefined,false
+";
+    assert_eq!(program_output(CASE_1.as_bytes()), expected);
+}
+
+#[test]
+fn cases_2_3_7_8_9_have_their_verdicts() {
+    let cases: [(&str, Vec<Verdict>); 5] = [
+        ("name,a\nrule,a,a\nend\n", vec![False, False]),
+        ("name,a\nrule,a,~a\nend\n", vec![Undefined, False]),
+        (
+            "name,a\nname,b\nrule,a,~b\nend\n",
+            vec![True, False, False, False],
+        ),
+        ("name,a\nrule,-a,~a\nend\n", vec![False, True]),
+        (
+            "name,a\nrule,a,~-a\nrule,-a,~a\nend\n",
+            vec![Undefined, Undefined],
+        ),
+    ];
+    for (file, expected) in cases {
+        assert_eq!(verdicts(&lesson(file)), expected, "{file}");
+    }
+}
+
+#[test]
+fn case_4_is_contradictory_and_still_searched() {
+    let file = "name,a\nrule,a\nrule,-a\nend\n";
+    assert_eq!(program_output(file.as_bytes()), "contradiction,1,2,0,a\n");
+    let lesson = lesson(file);
+    assert_eq!(lesson.verdict(0), Err(Refused::Contradictory));
+    assert!(says(&lesson, Tree::T, 0));
+    assert!(!says(&lesson, Tree::TU, 0));
+}
+
+#[test]
+fn case_5_has_b_true_and_a_false() {
+    assert_eq!(verdicts(&lesson(CASE_5)), [False, True, True, False]);
+}
+
+#[test]
+fn case_6_has_f_and_s_false_and_d_undefined() {
+    assert_eq!(
+        verdicts(&lesson(CASE_6)),
+        [False, False, False, True, Undefined, False]
+    );
+}
+
+#[test]
+fn case_10_lists_a_book_of_nothing() {
+    assert_eq!(program_output(b"end\n"), "model,0,0,0\n");
+}
+
+#[test]
+fn case_11_puts_in_a_fact_and_takes_it_out() {
+    let mut lesson = lesson(CASE_5);
+    assert_eq!(lesson.put_in(0), Ok(()));
+    assert_eq!(lesson.verdict(2), Err(Refused::Contradictory));
+    let mut buffer = [0; 64];
+    let length = lesson
+        .listing(&mut buffer)
+        .expect("the buffer is long enough");
+    assert_eq!(&buffer[..length], b"contradiction,2,3,1,a\n");
+    assert_eq!(lesson.take_out(0), Ok(()));
+    assert_eq!(verdicts(&lesson), [False, True, True, False]);
+}
+
+#[test]
+fn astray_gamma_in_place_of_gamma_s_loses_b_in_case_5() {
+    let book = read(CASE_5.as_bytes()).expect("the file loads");
+    let program = Program::new(&book, &BTreeSet::new());
+    let mut astray = vec![false; program.literals];
+    loop {
+        let next = gamma(&program, &gamma(&program, &astray));
+        if next == astray {
+            break;
+        }
+        astray = next;
+    }
+    assert!(!astray[2], "the wrong reading doesn't show b");
+    assert!(program.halves().truths[2], "the right one does");
+}
+
+#[test]
+fn astray_without_the_added_leaf_f_of_case_6_isnt_false() {
+    let lesson = lesson(CASE_6);
+    assert!(!says(&lesson, Tree::TU, 0));
+    assert!(!says(&lesson, Tree::TU, 2));
+    assert!(says(&lesson, Tree::TU, 4));
+}
+
+/// `a ← ~a`: the TU-tree for a stands under the T-ancestor a. If that failed it, "not a" would
+/// hold and a would be true.
+#[test]
+fn astray_a_tu_node_isnt_failed_by_a_global_t_ancestor() {
+    let lesson = lesson("name,a\nrule,a,~a\nend\n");
+    assert!(!says(&lesson, Tree::T, 0));
+    assert!(says(&lesson, Tree::TU, 0));
+}
+
+#[test]
+fn astray_undefined_is_printed_as_such() {
+    let text = program_output(b"name,a\nrule,a,~a\nend\n");
+    assert_eq!(text, "model,1,1,0\n0,a,undefined,false\n");
+}
+
+#[test]
+fn astray_a_contradiction_without_facts_is_found() {
+    let file = b"name,x\nname,a\nrule,a,~x\nrule,-a,~x\nend\n";
+    assert_eq!(program_output(file), "contradiction,2,2,0,a\n");
+}
+
+#[test]
+fn the_lowest_contradictory_name_is_printed() {
+    let file = b"name,c\nname,b\nname,a\nrule,a\nrule,-a\nrule,-b\nrule,b\nend\n";
+    assert_eq!(program_output(file), "contradiction,3,4,0,b\n");
+}

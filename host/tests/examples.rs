@@ -1,0 +1,112 @@
+//! The example books have the listings that stand beside them, and so do the books of the guide.
+
+use mezhkura::second::{program_output, Lesson};
+use std::fs;
+use std::path::{Path, PathBuf};
+
+fn repository() -> PathBuf {
+    Path::new(env!("CARGO_MANIFEST_DIR")).join("..")
+}
+
+#[test]
+fn examples_have_their_listings() {
+    let mut seen = Vec::new();
+    for entry in fs::read_dir(repository().join("examples")).expect("the folder examples") {
+        let path = entry.expect("an entry of examples").path();
+        if path.extension().is_some_and(|ending| ending == "book") {
+            let book = fs::read(&path).expect("a book of examples");
+            let listing = fs::read_to_string(path.with_extension("listing"))
+                .unwrap_or_else(|_| panic!("no listing beside {}", path.display()));
+            assert_eq!(program_output(&book), listing, "{}", path.display());
+            seen.push(listing);
+        }
+    }
+    assert!(seen.len() >= 4, "{} examples", seen.len());
+    assert!(seen.iter().any(|l| l.starts_with("contradiction,")));
+    assert!(seen.iter().any(|l| l.contains("undefined")));
+    assert!(!seen.iter().any(|l| l.starts_with("refused")));
+}
+
+/// A block of a page between two lines of three backquotes.
+struct Block {
+    /// What stands behind the first backquotes.
+    kind: String,
+    text: String,
+    /// The line of the page where the block begins.
+    line: usize,
+}
+
+fn blocks(page: &str) -> Vec<Block> {
+    let mut blocks = Vec::new();
+    let mut open: Option<Block> = None;
+    for (number, line) in page.lines().enumerate() {
+        match (line.strip_prefix("```"), open.as_mut()) {
+            (Some(kind), None) => {
+                open = Some(Block {
+                    kind: kind.to_string(),
+                    text: String::new(),
+                    line: number + 1,
+                });
+            }
+            (Some(_), Some(_)) => blocks.extend(open.take()),
+            (None, Some(block)) => block.text += &format!("{line}\n"),
+            (None, None) => {}
+        }
+    }
+    assert!(open.is_none(), "every block is closed");
+    blocks
+}
+
+/// The listing of a book after facts, spelt as in rules, were put in.
+fn listing_with_facts(book: &str, facts: &str) -> String {
+    let mut lesson = Lesson::fresh();
+    lesson.load(book.as_bytes()).expect("the book loads");
+    for fact in facts.lines() {
+        let name = fact.trim_start_matches('-');
+        let number = lesson.book().and_then(|book| book.number_of(name));
+        let number = number.unwrap_or_else(|| panic!("{name} is declared"));
+        lesson
+            .put_in(2 * number + usize::from(fact.starts_with('-')))
+            .expect("the fact is put in once");
+    }
+    let mut buffer = vec![0; 8192];
+    let length = lesson.listing(&mut buffer).expect("the buffer is long");
+    String::from_utf8(buffer[..length].to_vec()).expect("a listing is ASCII")
+}
+
+#[test]
+fn books_of_the_guide_have_their_listings() {
+    let page = fs::read_to_string(repository().join("docs/BOOKS.md")).expect("the guide");
+    let (mut book, mut facts, mut listings) = (String::new(), String::new(), 0);
+    for block in blocks(&page) {
+        match block.kind.as_str() {
+            "book" => book = block.text,
+            "book without the last line end" => {
+                book = block.text.strip_suffix('\n').unwrap_or("").to_string();
+            }
+            "put-in" => facts = block.text,
+            "listing" => {
+                let printed = if facts.is_empty() {
+                    program_output(book.as_bytes())
+                } else {
+                    listing_with_facts(&book, &facts)
+                };
+                assert_eq!(printed, block.text, "BOOKS.md, line {}", block.line);
+                facts.clear();
+                listings += 1;
+            }
+            other => panic!("BOOKS.md, line {}: a block `{other}`", block.line),
+        }
+    }
+    assert!(listings >= 18, "{listings} listings");
+}
+
+/// The guide has an example for each number that a short file can meet.
+#[test]
+fn the_guide_shows_every_refusal_of_a_short_file() {
+    let page = fs::read_to_string(repository().join("docs/BOOKS.md")).expect("the guide");
+    for number in 1..=9 {
+        assert!(page.contains(&format!("### {number}: ")), "{number}");
+        assert!(page.contains(&format!("refused,{number},")), "{number}");
+    }
+}
