@@ -1,0 +1,4 @@
+-- The laws of the lesson and of lists of calls.
+pub mod Order
+pub mod Meaning
+pub mod Replies

@@ -1,0 +1,74 @@
+-- The meaning of a lesson by its bits: whether it has a book, and which literals are in it.
+use mathlib.Core.Path.{_≡_, refl, sym, _∙_, ap}
+use mathlib.Core.Bool.{Bool, true, false, cond, true≢false}
+use Prim.Native.Nat.{ℕ, zero, suc, _*_, _≤_, _<_}
+use native.Mathlib.Omega.{arith}
+use lib.Dec.{eqb, ltb}
+use lib.ListN.{length}
+use borrow.Author.Tests.{eq-eqb, ne-eqb, ltb-true, lt-ltb, le-ltb}
+use Rattle.wfsx.specs.Sets.{members}
+use Rattle.wfsx.specs.Program.{withFacts}
+use Rattle.litset.specs.Words.{capacity, setOf}
+use Rattle.book.specs.Limits.{maxNames}
+use Rattle.book.specs.Book.{rows, clamp, nameAt, namesOf, rulesOf, programOf}
+use Rattle.book.specs.declared.Book.{Book}
+use Rattle.book.proofs.Counts.{clamp-most}
+use Rattle.desk.specs.Listed.{Shelf, empty, holding, noneLoaded, inBook, namesOn, rulesOn, programIn}
+use Rattle.desk.specs.Calls.{shelfOf, meaningOf}
+use Rattle.desk.specs.declared.Lesson.{Lesson}
+
+rows-length : {X : Type 0} (f : ℕ → X) (k n : ℕ) → length (rows f k n) ≡ n
+unfolding rows
+rows-length f k zero = refl
+rows-length f k (suc n) = ap suc (rows-length f (suc k) n)
+
+pub names-counted : (b : Book) → length (namesOf b) ≡ clamp maxNames (b .names)
+names-counted b = rows-length (nameAt (b .text) (b .lengths)) 0 (clamp maxNames (b .names))
+
+module _ (l : Lesson) where
+  pub shelf-empty : l .loaded ≡ 0 → meaningOf l .book ≡ empty
+  unfolding meaningOf shelfOf
+  shelf-empty e = rw (eq-eqb (l .loaded) 0 e) refl
+
+  pub shelf-holding : (l .loaded ≡ 0 → ⊥) → meaningOf l .book ≡ holding (namesOf (l .book)) (rulesOf (l .book))
+  unfolding meaningOf shelfOf
+  shelf-holding e = rw (ne-eqb (l .loaded) 0 e) refl
+
+  pub none-loaded-is : l .loaded ≡ 0 → noneLoaded (meaningOf l .book) ≡ true
+  none-loaded-is e = rw (shelf-empty e) refl
+
+  pub loaded-is : (l .loaded ≡ 0 → ⊥) → noneLoaded (meaningOf l .book) ≡ false
+  loaded-is e = rw (shelf-holding e) refl
+
+  module _ (e : l .loaded ≡ 0 → ⊥) (A n : ℕ) (count : n ≡ clamp maxNames (l .book .names)) where
+    twice-names : 2 * length (namesOn (meaningOf l .book)) ≡ 2 * n
+    twice-names = ap (λ (b : Shelf). 2 * length (namesOn b)) (shelf-holding e) ∙ ap (2 *_) (names-counted (l .book) ∙ sym count)
+
+    pub literal-outside : 2 * n ≤ A → inBook (meaningOf l .book) A ≡ false
+    unfolding inBook
+    literal-outside h = ap (ltb A) twice-names ∙ le-ltb A (2 * n) h
+
+    pub literal-inside : A < 2 * n → inBook (meaningOf l .book) A ≡ true
+    unfolding inBook
+    literal-inside h = ap (ltb A) twice-names ∙ lt-ltb A (2 * n) h
+
+  -- the program of a lesson with a book
+  pub program-is : noneLoaded (meaningOf l .book) ≡ false → programOf (l .book) (setOf (l .facts .words)) ≡ programIn (meaningOf l)
+  unfolding programOf programIn meaningOf shelfOf
+  program-is e = go (eqb (l .loaded) 0) e
+    where
+      go : (t : Bool) → noneLoaded (cond t empty (holding (namesOf (l .book)) (rulesOf (l .book)))) ≡ false
+          → withFacts (rulesOf (l .book)) (members capacity (setOf (l .facts .words))) ≡ withFacts (rulesOn (cond t empty (holding (namesOf (l .book)) (rulesOf (l .book))))) (members capacity (setOf (l .facts .words)))
+      go true h = absurd (true≢false h)
+      go false h = refl
+
+  -- a literal of a lesson's book has room in a set
+  pub inside-room : (A : ℕ) → inBook (meaningOf l .book) A ≡ true → A < capacity
+  unfolding inBook meaningOf shelfOf
+  inside-room A e = go (eqb (l .loaded) 0) e
+    where
+      go : (t : Bool) → ltb A (2 * length (namesOn (cond t empty (holding (namesOf (l .book)) (rulesOf (l .book)))))) ≡ true → A < capacity
+      go true h = let i = ltb-true A 0 h in omega arith
+      go false h =
+          let i = ltb-true A (2 * length (namesOf (l .book))) h in
+          omega (arith, names-counted (l .book), clamp-most maxNames (l .book .names))

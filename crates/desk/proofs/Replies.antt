@@ -1,0 +1,212 @@
+-- What a reply is once the tests of a call have picked an arm, over plain values: the calls' proofs cite these.
+use mathlib.Core.Path.{_≡_, refl, sym, _∙_, ap}
+use mathlib.Core.Bool.{Bool, true, false, cond, true≢false}
+use Prim.Native.Nat.{ℕ}
+use Rattle.wfsx.specs.Sets.{∅}
+use Rattle.wfsx.specs.Program.{Entry, Program}
+use Rattle.wfsx.specs.Model as wfsx
+use Rattle.wfsx.specs.Model.{M, N, Contradictory}
+use Rattle.wfsx.specs.Trees as trees
+use Rattle.wfsx.specs.Trees.{answer}
+use Rattle.litset.specs.Words.{setOf, with, without}
+use Rattle.litset.specs.declared.LitSet.{LitSet}
+use Rattle.litset.proofs.Words.{with-room}
+use Rattle.book.specs.Book.{programOf}
+use Rattle.reader.specs.File.{Outcome, accepted}
+use Rattle.reader.specs.File as reader
+use Rattle.reader.specs.Loading.{loadedOf}
+use Rattle.reader.specs.declared.Answer.{Answer}
+use Rattle.reader.specs.declared.Answer.the-variants.{Accepted, Refused}
+use Rattle.reader.specs.declared.Loaded.{Loaded}
+use Rattle.fixpoint.specs.Result.{ModelOf, verdictIs, verdictIn}
+use Rattle.fixpoint.specs.declared.Verdict.{Verdict}
+use Rattle.fixpoint.specs.declared.Clash.the-variants as clash
+use Rattle.fixpoint.specs.declared.Model.{Model}
+use Rattle.fixpoint.proofs.Published.{book-no-clash, book-clash-name, verdict-same}
+use Rattle.desk.specs.Listed.{acknowledged, programIn, gives, refused, inOrder, putInSays, takeOutSays, searchSays, ifLoaded, setGiven}
+use Rattle.desk.specs.Calls.{meaningOf, stateSays, LoadsAs, PutsIn, TakesOut, GivesVerdict, Answers, GivesModel}
+use Rattle.desk.specs.declared.Lesson.{Lesson}
+use Rattle.desk.specs.declared.FactAnswer.the-variants as fact
+use Rattle.desk.specs.declared.VerdictAnswer.the-variants as verdict
+use Rattle.desk.specs.declared.AskAnswer.the-variants as ask
+use Rattle.desk.specs.declared.ModelAnswer.the-variants as model
+use Rattle.desk.proofs.Order.{turned-down, state-passed, passed}
+use Rattle.desk.proofs.Meaning.{none-loaded-is, loaded-is, inside-room, program-is}
+
+-- ---- load
+
+abbrev isAccepted : Answer → Bool
+isAccepted Accepted = true
+isAccepted (Refused number line) = false
+
+abbrev number : Answer → ℕ
+number Accepted = 0
+number (Refused k line) = k
+
+abbrev lineIn : Answer → ℕ
+lineIn Accepted = 0
+lineIn (Refused k line) = line
+
+refused-accepted : (k line : ℕ) → _≡_ {A = Answer} (Refused k line) Accepted → ⊥
+refused-accepted k line e = true≢false (sym (ap isAccepted e))
+
+module _ (l : Lesson) (q : Loaded) where
+  pub load-accepted : (o : Outcome) → q ≡ loadedOf o → q .answer ≡ Accepted → (facts : LitSet) → setOf (facts .words) ≡ ∅
+      → LoadsAs l o (record { answer = Accepted; lesson = record { loaded = 1; book = q .book; facts = facts } })
+  unfolding loadedOf
+  load-accepted (accepted names rules) e a facts none =
+      (refl, record { loaded-is = refl; book-is = ap (λ (x : Loaded). x .book) e; facts-are = none })
+  load-accepted (reader.refused k line) e a facts none = absurd (refused-accepted k line (sym (ap (λ (x : Loaded). x .answer) e) ∙ a))
+
+  pub load-refused : (o : Outcome) → q ≡ loadedOf o → (k line : ℕ) → q .answer ≡ Refused k line → LoadsAs l o (record { answer = Refused k line; lesson = l })
+  unfolding loadedOf
+  load-refused (accepted names rules) e k line a = absurd (refused-accepted k line (sym a ∙ ap (λ (x : Loaded). x .answer) e))
+  load-refused (reader.refused j at) e k line a = (sym a ∙ ap (λ (x : Loaded). x .answer) e, refl)
+
+-- ---- put in, take out
+
+module _ (l : Lesson) (A n : ℕ) (e : stateSays n ≡ inOrder (meaningOf l) A (gives acknowledged)) where
+  pub put-in-state : (n ≡ 0 → ⊥) → PutsIn l A (record { answer = fact.Refused n; lesson = l })
+  unfolding putInSays
+  put-in-state z = record { says = turned-down (meaningOf l) A n e _ z; leaves = refl }
+
+  pub take-out-state : (n ≡ 0 → ⊥) → TakesOut l A (record { answer = fact.Refused n; lesson = l })
+  unfolding takeOutSays
+  take-out-state z = record { says = turned-down (meaningOf l) A n e _ z; leaves = refl }
+
+  module _ (z : n ≡ 0) where
+    pub put-in-22 : setOf (l .facts .words) A ≡ true → PutsIn l A (record { answer = fact.Refused 22; lesson = l })
+    unfolding putInSays meaningOf
+    put-in-22 h = record { says = sym (passed (meaningOf l) A n e _ z ∙ ap (λ (t : Bool). cond t (refused 22) (gives acknowledged)) h); leaves = refl }
+
+    pub put-in-done : setOf (l .facts .words) A ≡ false → (facts : LitSet) → setOf (facts .words) ≡ with A (setOf (l .facts .words))
+        → PutsIn l A (record { answer = fact.Done; lesson = record { loaded = l .loaded; book = l .book; facts = facts } })
+    unfolding putInSays meaningOf
+    put-in-done h facts w =
+        record {
+          says = sym (passed (meaningOf l) A n e _ z ∙ ap (λ (t : Bool). cond t (refused 22) (gives acknowledged)) h);
+          leaves =
+              record {
+                loaded-is = refl;
+                book-is = refl;
+                facts-are = w ∙ with-room A (setOf (l .facts .words)) (inside-room l A (state-passed (meaningOf l) A n e z .1));
+              };
+        }
+
+    pub take-out-23 : setOf (l .facts .words) A ≡ false → TakesOut l A (record { answer = fact.Refused 23; lesson = l })
+    unfolding takeOutSays meaningOf
+    take-out-23 h = record { says = sym (passed (meaningOf l) A n e _ z ∙ ap (λ (t : Bool). cond t (gives acknowledged) (refused 23)) h); leaves = refl }
+
+    pub take-out-done : setOf (l .facts .words) A ≡ true → (facts : LitSet) → setOf (facts .words) ≡ without A (setOf (l .facts .words))
+        → TakesOut l A (record { answer = fact.Done; lesson = record { loaded = l .loaded; book = l .book; facts = facts } })
+    unfolding takeOutSays meaningOf
+    take-out-done h facts w =
+        record {
+          says = sym (passed (meaningOf l) A n e _ z ∙ ap (λ (t : Bool). cond t (gives acknowledged) (refused 23)) h);
+          leaves = record { loaded-is = refl; book-is = refl; facts-are = w };
+        }
+
+  -- ---- verdict and search
+
+  pub verdict-state : (n ≡ 0 → ⊥) → GivesVerdict l A (record { answer = verdict.Refused n; lesson = l })
+  verdict-state z =
+      record {
+        says = record { contradictory = λ k. turned-down (meaningOf l) A n e _ z; consistent = λ k. turned-down (meaningOf l) A n e _ z };
+        leaves = refl;
+      }
+
+  pub ask-state : (n ≡ 0 → ⊥) → (k : trees.Tree) (question : Entry) → Answers l A k question (record { answer = ask.Refused n; lesson = l })
+  unfolding searchSays
+  ask-state z k question = record { says = turned-down (meaningOf l) A n e _ z; leaves = refl }
+
+  module _ (z : n ≡ 0) where
+    abbrev P : Program
+    P = programOf (l .book) (setOf (l .facts .words))
+
+    same : P ≡ programIn (meaningOf l)
+    same = program-is l (state-passed (meaningOf l) A n e z .0)
+
+    pub ask-given : (k : trees.Tree) (question : Entry) (holds : Bool) → holds ≡ answer P k question
+        → Answers l A k question (record { answer = ask.Given holds; lesson = l })
+    unfolding searchSays
+    ask-given k question holds h =
+        record {
+          says = ap gives (h ∙ ap (λ (Q : Program). answer Q k question) same) ∙ sym (passed (meaningOf l) A n e _ z);
+          leaves = refl;
+        }
+
+    module _ (m : Model) (is : ModelOf P m) where
+      pub verdict-24 : (k : ℕ) → m .clash ≡ clash.Name k → GivesVerdict l A (record { answer = verdict.Refused 24; lesson = l })
+      verdict-24 k h =
+          record {
+            says =
+                record {
+                  contradictory = λ c. sym (passed (meaningOf l) A n e _ z);
+                  consistent = λ c. absurd (c (rw same at (book-clash-name (l .book) _ m is k .0 h .0)));
+                };
+            leaves = refl;
+          }
+
+      pub verdict-given : m .clash ≡ clash.None → (v : Verdict) → verdictIs v ≡ verdictIn (setOf (m .truths .words)) (setOf (m .nonfalse .words)) A
+          → GivesVerdict l A (record { answer = verdict.Given v; lesson = l })
+      verdict-given h v w =
+          record {
+            says =
+                record {
+                  contradictory = λ c. absurd (book-no-clash (l .book) _ m is .0 h (rw (← same) at c));
+                  consistent =
+                      λ c. ap gives (w ∙ verdict-same P m is A ∙ ap (λ (Q : Program). wfsx.verdict Q A) same) ∙ sym (passed (meaningOf l) A n e _ z);
+                };
+            leaves = refl;
+          }
+
+-- ---- model
+
+module _ (l : Lesson) where
+  pub model-20 : l .loaded ≡ 0 → (T U : LitSet) → setOf (T .words) ≡ ∅ → setOf (U .words) ≡ ∅
+      → GivesModel l (record { answer = model.Refused 20; truths = T; nonfalse = U; lesson = l })
+  unfolding ifLoaded setGiven
+  model-20 e T U t u =
+      let none = none-loaded-is l e in
+      record {
+        says = record { contradictory = λ c. rw none refl; consistent = λ c. rw none refl };
+        truths = rw none t;
+        nonfalse = rw none u;
+        leaves = refl;
+      }
+
+  module _ (e : l .loaded ≡ 0 → ⊥) (m : Model) (is : ModelOf (programOf (l .book) (setOf (l .facts .words))) m) where
+    its-program : programOf (l .book) (setOf (l .facts .words)) ≡ programIn (meaningOf l)
+    its-program = program-is l (loaded-is l e)
+
+    pub model-contradictory : (k : ℕ) → m .clash ≡ clash.Name k
+        → GivesModel l (record { answer = model.Contradictory; truths = m .truths; nonfalse = m .nonfalse; lesson = l })
+    unfolding ifLoaded setGiven
+    model-contradictory k h =
+        let some = loaded-is l e in
+        record {
+          says =
+              record {
+                contradictory = λ c. rw some refl;
+                consistent = λ c. absurd (c (rw its-program at (book-clash-name (l .book) _ m is k .0 h .0)));
+              };
+          truths = rw some (is .truths ∙ ap M its-program);
+          nonfalse = rw some (is .nonfalse ∙ ap N its-program);
+          leaves = refl;
+        }
+
+    pub model-consistent : m .clash ≡ clash.None
+        → GivesModel l (record { answer = model.Consistent; truths = m .truths; nonfalse = m .nonfalse; lesson = l })
+    unfolding ifLoaded setGiven
+    model-consistent h =
+        let some = loaded-is l e in
+        record {
+          says =
+              record {
+                contradictory = λ c. absurd (book-no-clash (l .book) _ m is .0 h (rw (← its-program) at c));
+                consistent = λ c. rw some refl;
+              };
+          truths = rw some (is .truths ∙ ap M its-program);
+          nonfalse = rw some (is .nonfalse ∙ ap N its-program);
+          leaves = refl;
+        }

@@ -1,0 +1,3 @@
+-- What the contracts of `desk` cite, and what a list of calls leaves.
+pub mod Listed
+pub mod Calls
