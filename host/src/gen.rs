@@ -89,36 +89,50 @@ pub const FULL: Size = Size {
 pub fn book(random: &mut Random, size: Size) -> Book {
     let names = random.below(size.names + 1);
     let rules = random.below(size.rules + 1);
-    book_of(random, names, rules, size.body)
-}
-
-/// A book with all names and rules that a file may have, and as many body literals as fit.
-pub fn full_book(random: &mut Random) -> Book {
-    book_of(random, MOST_NAMES, MOST_RULES, MOST_IN_A_BODY)
-}
-
-fn book_of(random: &mut Random, names: usize, rules: usize, body: usize) -> Book {
-    let mut book = Book {
-        names: (0..names).map(name).collect(),
-        rules: Vec::new(),
-    };
-    if names == 0 {
-        return book;
-    }
-    // In some books explicit negation is rare, so that most of them aren't contradictory.
-    let negated = random.pick(&[1, 3, 8]);
     let mut room = MOST_BODY_LITERALS;
-    for _ in 0..rules {
-        let rule = rule_of(random, names, body.min(room), negated);
-        room -= rule.body.len();
-        book.rules.push(rule);
-    }
-    book
+    let lengths: Vec<usize> = (0..rules)
+        .map(|_| {
+            let length = random.below(size.body.min(room) + 1);
+            room -= length;
+            length
+        })
+        .collect();
+    book_of(random, names, &lengths)
 }
 
-fn rule_of(random: &mut Random, names: usize, most: usize, negated: usize) -> Rule {
+/// A book with all names, rules and body literals that a file may have.
+pub fn full_book(random: &mut Random) -> Book {
+    let mut lengths = [MOST_BODY_LITERALS / MOST_RULES; MOST_RULES];
+    // Moving a body literal from rule to rule keeps their number.
+    for _ in 0..4 * MOST_RULES {
+        let (from, to) = (random.below(MOST_RULES), random.below(MOST_RULES));
+        if lengths[from] > 0 && lengths[to] < MOST_IN_A_BODY {
+            lengths[from] -= 1;
+            lengths[to] += 1;
+        }
+    }
+    book_of(random, MOST_NAMES, &lengths)
+}
+
+/// A book with so many names, and a rule for each length of a body.
+fn book_of(random: &mut Random, names: usize, lengths: &[usize]) -> Book {
+    let negated = random.pick(NEGATED);
+    let lengths = if names == 0 { &[] } else { lengths };
+    Book {
+        names: (0..names).map(name).collect(),
+        rules: lengths
+            .iter()
+            .map(|&length| rule_of(random, names, length, negated))
+            .collect(),
+    }
+}
+
+/// In how many of 16 literals `-` stands. In some books it is rare or absent, so that many of them
+/// aren't contradictory.
+const NEGATED: &[usize] = &[0, 1, 3, 8];
+
+fn rule_of(random: &mut Random, names: usize, length: usize, negated: usize) -> Rule {
     let head = literal_of(random, names, negated);
-    let length = random.below(most + 1);
     let body = (0..length)
         .map(|_| Entry {
             literal: literal_of(random, names, negated),
@@ -131,6 +145,85 @@ fn rule_of(random: &mut Random, names: usize, most: usize, negated: usize) -> Ru
 /// A literal that has `-` in `negated` of 16 cases.
 fn literal_of(random: &mut Random, names: usize, negated: usize) -> usize {
     2 * random.below(names) + usize::from(random.chance(negated, 16))
+}
+
+/// A book whose model takes many rounds: each name holds unless the next one is shown, and for each
+/// name there are three rules more that never apply.
+pub fn long_model_book() -> Book {
+    let names = MOST_NAMES;
+    let mut book = Book {
+        names: (0..names).map(name).collect(),
+        rules: Vec::new(),
+    };
+    for n in 0..names - 1 {
+        book.rules.push(Rule {
+            head: 2 * n,
+            body: vec![default(2 * (n + 1))],
+        });
+        for _ in 0..3 {
+            let body = [2 * n, 2 * (n + 1), 2 * (names - 1)].map(objective);
+            book.rules.push(Rule {
+                head: 2 * n,
+                body: body.to_vec(),
+            });
+        }
+    }
+    book
+}
+
+/// A book whose TU-search of literal 0 is about n squared nodes deep and visits few more nodes.
+///
+/// Names x 0 to x (n - 1) follow from each other, the last of them from `not` of every y and from a
+/// name that nothing shows; each y follows from `not` of x 0. So a TU-tree has a path of n literals,
+/// and below its end stands a T-tree for the next y, which opens a TU-tree for x 0 again.
+pub fn deep_book(n: usize) -> Book {
+    let groups = n.div_ceil(MOST_IN_A_BODY);
+    let names = 2 * n + groups + 1;
+    assert!(names <= MOST_NAMES && groups < MOST_IN_A_BODY);
+    let (x, y, group) = (|k| 2 * k, |k| 2 * (n + k), |k| 2 * (2 * n + k));
+    let mut rules = Vec::new();
+    for k in 0..n - 1 {
+        rules.push(Rule {
+            head: x(k),
+            body: vec![objective(x(k + 1))],
+        });
+    }
+    // The name behind the groups has no rule.
+    rules.push(Rule {
+        head: x(n - 1),
+        body: (0..=groups).map(|k| objective(group(k))).collect(),
+    });
+    for k in 0..groups {
+        let members = MOST_IN_A_BODY * k..n.min(MOST_IN_A_BODY * (k + 1));
+        rules.push(Rule {
+            head: group(k),
+            body: members.map(|m| default(y(m))).collect(),
+        });
+    }
+    for k in 0..n {
+        rules.push(Rule {
+            head: y(k),
+            body: vec![default(x(0))],
+        });
+    }
+    Book {
+        names: (0..names).map(name).collect(),
+        rules,
+    }
+}
+
+fn objective(literal: usize) -> Entry {
+    Entry {
+        literal,
+        default: false,
+    }
+}
+
+fn default(literal: usize) -> Entry {
+    Entry {
+        literal,
+        default: true,
+    }
 }
 
 /// A file: often a book's, often a damaged one, at times a heap of fields.
@@ -455,7 +548,7 @@ fn any_literal(random: &mut Random, size: Size) -> usize {
 #[cfg(test)]
 mod tests {
     use super::*;
-    use crate::second::read;
+    use crate::second::{program_output, read};
 
     #[test]
     fn a_generated_book_is_read_as_itself() {
@@ -469,6 +562,19 @@ mod tests {
             assert_eq!(full.body_literals(), MOST_BODY_LITERALS);
             assert_eq!(read(full.to_file().as_bytes()), Ok(full));
         }
+    }
+
+    #[test]
+    fn full_books_have_models_and_contradictions() {
+        let mut random = Random::new(3);
+        let outputs: Vec<String> = (0..60)
+            .map(|_| program_output(full_book(&mut random).to_file().as_bytes()))
+            .collect();
+        let starting = |with: &str| outputs.iter().filter(|o| o.starts_with(with)).count();
+        let undefined = outputs.iter().filter(|o| o.contains("undefined")).count();
+        println!("{} models, {undefined} with undefined", starting("model,"));
+        assert!(starting("model,") >= 10 && starting("contradiction,") >= 10);
+        assert!(undefined >= 5);
     }
 
     #[test]

@@ -1,10 +1,10 @@
 //! On random small books: the searches agree with M and N, M and N with the published notions, and
 //! the comparison of two desks finds wrong ones.
 
-use mezhkura::answer::{Model, Question, Refused, Verdict};
+use mezhkura::answer::{Model, Question, Refused, Tree, Verdict};
 use mezhkura::compare::{answer_by_model, explain, first_difference, questions, Desk};
 use mezhkura::gen::{self, Random, Size, SMALL};
-use mezhkura::second::{contradictory_name, gamma, Lesson, Program};
+use mezhkura::second::{contradictory_name, gamma, Lesson, Program, Walk};
 use mezhkura::stack::with_search_stack;
 use std::collections::BTreeSet;
 
@@ -261,33 +261,20 @@ fn wrong_desks_are_found_and_explained_in_few_calls() {
     }
 }
 
-/// A ladder of `n` and `n` names is as deep as n squared: the room for deep searches holds it.
+/// The room for deep searches holds a walk of thousands of nodes above each other.
 #[test]
 fn a_deep_search_has_room() {
-    let n = 40;
-    let mut file: String = (0..n).map(|k| format!("name,x{k}\nname,y{k}\n")).collect();
-    for k in 0..n {
-        file += &format!("rule,y{k},~x0\n");
-        if k + 1 < n {
-            file += &format!("rule,x{k},x{}\n", k + 1);
-        }
-    }
-    for from in (0..n).step_by(16) {
-        let leaves: String = (from..n.min(from + 16))
-            .map(|k| format!(",~y{k}"))
-            .collect();
-        file += &format!("rule,x{}{leaves}\n", n - 1);
-    }
-    file += "end\n";
-    let mut lesson = Lesson::fresh();
-    lesson.load(file.as_bytes()).expect("the file loads");
-    let facts = BTreeSet::new();
-    let program = Program::new(lesson.book().expect("a book is loaded"), &facts);
-    let deepest = with_search_stack(|| {
-        let mut walk = mezhkura::second::Walk::new(&program, 100_000);
-        let question = questions(0).nth(1).expect("the TU-search of x0");
-        walk.ask(question);
-        walk.deepest
+    let book = gen::deep_book(60);
+    let program = Program::new(&book, &BTreeSet::new());
+    let question = Question {
+        literal: 0,
+        default: false,
+        tree: Tree::TU,
+    };
+    let (answer, deepest) = with_search_stack(|| {
+        let mut walk = Walk::new(&program, 100_000);
+        (walk.ask(question), walk.deepest)
     });
-    assert!(deepest > 500, "the walk was {deepest} nodes deep");
+    assert_eq!(answer, Some(program.halves().nonfalse[0]));
+    assert!(deepest > 3_600, "the walk was {deepest} nodes deep");
 }
