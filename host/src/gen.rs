@@ -14,12 +14,12 @@ impl Random {
         // The state is never 0, and neighbouring seeds start far apart.
         let mut random = Random(seed.wrapping_mul(0x9E37_79B9_7F4A_7C15) | 1);
         for _ in 0..8 {
-            random.next();
+            random.word();
         }
         random
     }
 
-    pub fn next(&mut self) -> u64 {
+    pub fn word(&mut self) -> u64 {
         self.0 ^= self.0 >> 12;
         self.0 ^= self.0 << 25;
         self.0 ^= self.0 >> 27;
@@ -31,7 +31,7 @@ impl Random {
         if bound == 0 {
             return 0;
         }
-        ((self.next() >> 32) as usize) % bound
+        ((self.word() >> 32) as usize) % bound
     }
 
     /// A number from `low` to `high`, both included.

@@ -157,6 +157,7 @@ enum How {
     ModelOfTheBookAlone,
     VerdictOfAContradiction,
     LoadKeepsFacts,
+    RefusedPutInTakesOut,
 }
 
 impl Desk for Wrong {
@@ -174,6 +175,9 @@ impl Desk for Wrong {
     fn put_in(&mut self, literal: usize) -> Result<(), Refused> {
         match self.how {
             How::PutInStoresNothing => self.lesson.clone().put_in(literal),
+            How::RefusedPutInTakesOut => self.lesson.put_in(literal).inspect_err(|_| {
+                let _ = self.lesson.take_out(literal);
+            }),
             _ => self.lesson.put_in(literal),
         }
     }
@@ -221,6 +225,10 @@ impl Desk for Wrong {
             _ => self.lesson.listing(buffer),
         }
     }
+
+    fn state(&self) -> Vec<u8> {
+        format!("{:?}", self.lesson).into_bytes()
+    }
 }
 
 fn random_lists(how: How, lists: usize) -> Option<String> {
@@ -253,6 +261,7 @@ fn wrong_desks_are_found_and_explained_in_few_calls() {
         How::ModelOfTheBookAlone,
         How::VerdictOfAContradiction,
         How::LoadKeepsFacts,
+        How::RefusedPutInTakesOut,
     ] {
         let text = random_lists(how, 2_000).unwrap_or_else(|| panic!("{how:?} wasn't found"));
         println!("{how:?}: {text}");
