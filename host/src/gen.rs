@@ -78,6 +78,13 @@ pub const SMALL: Size = Size {
     body: 3,
 };
 
+/// Trees of most of these books end within a few thousand visits.
+pub const MIDDLE: Size = Size {
+    names: 7,
+    rules: 16,
+    body: 4,
+};
+
 /// The limits of document 01.
 pub const FULL: Size = Size {
     names: MOST_NAMES,
@@ -226,13 +233,13 @@ fn default(literal: usize) -> Entry {
     }
 }
 
-/// A file: often a book's, often a damaged one, at times a heap of fields.
+/// A file: often a book's, often a damaged one, at times a few lines of random fields.
 pub fn file(random: &mut Random, size: Size) -> Vec<u8> {
     let written = book(random, size).to_file().into_bytes();
     match random.below(8) {
         0..=2 => written,
         3..=6 => damaged(random, &written),
-        _ => heap_of_fields(random),
+        _ => some_lines(random),
     }
 }
 
@@ -246,7 +253,7 @@ pub fn damaged(random: &mut Random, file: &[u8]) -> Vec<u8> {
 }
 
 fn damaged_once(random: &mut Random, mut file: Vec<u8>) -> Vec<u8> {
-    match random.below(10) {
+    match random.below(11) {
         0 => flip(random, &mut file),
         1 => file.truncate(random.below(file.len() + 1)),
         2 => replace_byte(random, &mut file),
@@ -256,6 +263,7 @@ fn damaged_once(random: &mut Random, mut file: Vec<u8>) -> Vec<u8> {
         6 => file = with_lines(file, |lines| repeat_line(random, lines)),
         7 => file = with_lines(file, |lines| drop_field(random, lines)),
         8 => file = with_lines(file, |lines| add_field(random, lines)),
+        9 => file = with_lines(file, |lines| one_more(random, lines)),
         _ => file = with_lines(file, |lines| add_line(random, lines)),
     }
     file
@@ -319,6 +327,13 @@ fn repeat_line(random: &mut Random, lines: &mut Vec<Vec<u8>>) {
 fn add_line(random: &mut Random, lines: &mut Vec<Vec<u8>>) {
     let line = line_of_fields(random);
     lines.insert(random.below(lines.len() + 1), line);
+}
+
+/// One name, rule or body literal more: too many where the tables are full.
+fn one_more(random: &mut Random, lines: &mut Vec<Vec<u8>>) {
+    let line = random.pick(&["name,one_more\n", "rule,brake\n", "rule,brake,~axle\n"]);
+    let before_end = lines.len().saturating_sub(1);
+    lines.insert(before_end, line.as_bytes().to_vec());
 }
 
 /// Removes a field of a line, with the comma before or behind it.
@@ -404,7 +419,7 @@ fn line_of_fields(random: &mut Random) -> Vec<u8> {
     line
 }
 
-fn heap_of_fields(random: &mut Random) -> Vec<u8> {
+fn some_lines(random: &mut Random) -> Vec<u8> {
     let count = random.below(6);
     let mut file: Vec<u8> = (0..count).flat_map(|_| line_of_fields(random)).collect();
     if random.chance(3, 4) {
@@ -415,49 +430,84 @@ fn heap_of_fields(random: &mut Random) -> Vec<u8> {
 
 /// Files at the edges of every limit, and of every number from 1 to 9.
 pub fn edge_files() -> Vec<Vec<u8>> {
-    let names = |count: usize| -> String { (0..count).map(|n| format!("name,n{n}\n")).collect() };
+    let texts = [table_edges(), name_edges(), length_edges()].concat();
+    texts
+        .into_iter()
+        .map(String::into_bytes)
+        .chain(byte_edges())
+        .collect()
+}
+
+fn names_declared(count: usize) -> String {
+    (0..count).map(|n| format!("name,n{n}\n")).collect()
+}
+
+/// Names, rules and body literals, around the size of their tables.
+fn table_edges() -> Vec<String> {
     let rules = |count: usize| "rule,n0\n".repeat(count);
     let body = |count: usize| format!("rule,n0{}\n", ",~-n0".repeat(count));
-    let bodies = body(16).repeat(128);
-    let long_name = |length: usize| "x".repeat(length);
+    let one = names_declared(1);
     let mut files = Vec::new();
     for count in [0, 1, 127, 128, 129, 130] {
-        files.push(names(count) + "end\n");
+        files.push(names_declared(count) + "end\n");
     }
-    files.push(names(128) + "name,n0\nend\n");
+    files.push(names_declared(128) + "name,n0\nend\n");
     for count in [511, 512, 513] {
-        files.push(names(1) + &rules(count) + "end\n");
-        files.push(names(1) + &rules(count) + "rule,absent\nend\n");
+        files.push(format!("{one}{}end\n", rules(count)));
+        files.push(format!("{one}{}rule,absent\nend\n", rules(count)));
     }
     for count in [15, 16, 17, 18, 600] {
-        files.push(names(1) + &body(count) + "end\n");
+        files.push(format!("{one}{}end\n", body(count)));
     }
-    for more in [body(0), body(1), body(16)] {
-        files.push(names(1) + &bodies + &more + "end\n");
+    for more in [0, 1, 16] {
+        files.push(format!("{one}{}{}end\n", body(16).repeat(128), body(more)));
     }
-    files.push(names(1) + &body(15) + &body(16).repeat(127) + &body(2) + "end\n");
-    for length in [0, 1, 15, 16, 17, 18, 255, 256, 257, 300] {
-        let name = long_name(length);
-        files.push(format!("name,{name}\nrule,{name},~-{name}\nend\n"));
-        files.push(format!("name,a\nrule,a,{name}\nend\n"));
-        files.push(format!("name,a\nrule,-{name}\nend\n"));
-    }
-    for length in [
-        59_999, 60_000, 60_001, 60_002, 65_535, 65_536, 65_537, 70_000,
-    ] {
-        files.push(",".repeat(length - 1) + "\n");
-        files.push("\n".repeat(length));
-        files.push("end\n".to_string() + &"x".repeat(length - 5) + "\n");
-        files.push("a".repeat(length));
-        files.push("end\n".to_string() + &"\u{7f}".repeat(length - 4));
-    }
-    let mut files: Vec<Vec<u8>> = files.into_iter().map(String::into_bytes).collect();
-    for byte in 0..=255 {
-        files.push([b"name,a", &[byte][..], b"\nend\n"].concat());
-        files.push([b"name,", &[byte][..], b"\nend\n"].concat());
-        files.push(vec![byte]);
-    }
+    let one_less = body(15) + &body(16).repeat(127);
+    files.push(format!("{one}{one_less}{}end\n", body(1)));
+    files.push(format!("{one}{one_less}{}end\n", body(2)));
     files
+}
+
+/// Names around the lengths that a name and a byte can have.
+fn name_edges() -> Vec<String> {
+    let lengths = [0, 1, 15, 16, 17, 18, 255, 256, 257, 300];
+    let of_length = |length| {
+        let name = "x".repeat(length);
+        [
+            format!("name,{name}\nrule,{name},~-{name}\nend\n"),
+            format!("name,a\nrule,a,{name}\nend\n"),
+            format!("name,a\nrule,-{name}\nend\n"),
+        ]
+    };
+    lengths.into_iter().flat_map(of_length).collect()
+}
+
+/// Files around 60,000 bytes, and around the size of a buffer of 65,536.
+fn length_edges() -> Vec<String> {
+    let lengths = [
+        59_999, 60_000, 60_001, 60_002, 65_535, 65_536, 65_537, 70_000,
+    ];
+    let of_length = |length: usize| {
+        [
+            ",".repeat(length - 1) + "\n",
+            "\n".repeat(length),
+            format!("end\n{}\n", "x".repeat(length - 5)),
+            "a".repeat(length),
+            format!("end\n{}", "\u{7f}".repeat(length - 4)),
+        ]
+    };
+    lengths.into_iter().flat_map(of_length).collect()
+}
+
+/// Every byte as a name, behind a name and alone.
+fn byte_edges() -> impl Iterator<Item = Vec<u8>> {
+    (0..=255u8).flat_map(|byte| {
+        [
+            [b"name,a", &[byte][..], b"\nend\n"].concat(),
+            [b"name,", &[byte][..], b"\nend\n"].concat(),
+            vec![byte],
+        ]
+    })
 }
 
 /// One call on a lesson.
@@ -562,6 +612,18 @@ mod tests {
             assert_eq!(full.body_literals(), MOST_BODY_LITERALS);
             assert_eq!(read(full.to_file().as_bytes()), Ok(full));
         }
+    }
+
+    #[test]
+    fn damaged_full_books_meet_number_8() {
+        let mut random = Random::new(4);
+        let mut met = 0;
+        for _ in 0..100 {
+            let full = full_book(&mut random).to_file();
+            let file = damaged(&mut random, full.as_bytes());
+            met += usize::from(read(&file).is_err_and(|refused| refused.number() == 8));
+        }
+        assert!(met >= 5, "number 8 was met {met} times");
     }
 
     #[test]

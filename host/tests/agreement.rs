@@ -3,7 +3,7 @@
 
 use mezhkura::answer::{Model, Question, Refused, Tree, Verdict};
 use mezhkura::compare::{answer_by_model, explain, first_difference, questions, Desk};
-use mezhkura::gen::{self, Random, Size, SMALL};
+use mezhkura::gen::{self, Random, Size, MIDDLE, SMALL};
 use mezhkura::second::{contradictory_name, gamma, Lesson, Program, Walk};
 use mezhkura::stack::with_search_stack;
 use std::collections::BTreeSet;
@@ -34,30 +34,47 @@ fn file_of(lesson: &Lesson) -> String {
     format!("{}facts {:?}", book.to_file(), lesson.facts())
 }
 
-#[test]
-fn searches_agree_with_m_and_n() {
-    let mut random = Random::new(seed());
-    let (mut asked, mut unended, mut contradictory) = (0, 0, 0);
-    for _ in 0..6_000 {
-        let lesson = random_lesson(&mut random, SMALL);
+/// How the searches of some random lessons went.
+#[derive(Debug, Default)]
+struct Tally {
+    asked: usize,
+    not_ended: usize,
+    contradictory: usize,
+}
+
+/// Asks every literal's four questions of so many random lessons.
+fn searches_of(lessons: usize, size: Size, seed: u64) -> Tally {
+    let mut random = Random::new(seed);
+    let mut tally = Tally::default();
+    for _ in 0..lessons {
+        let lesson = random_lesson(&mut random, size);
         let model = lesson.model().expect("a book is loaded");
-        contradictory += usize::from(model.contradictory);
+        tally.contradictory += usize::from(model.contradictory);
         let literals = lesson.book().map_or(0, |book| book.literals());
         for question in (0..literals).flat_map(questions) {
-            let expected = answer_by_model(question, &model);
-            match lesson.search(question, 100_000) {
+            tally.asked += 1;
+            match lesson.search(question, 20_000) {
                 Ok(Some(answer)) => {
-                    assert_eq!(answer, expected, "{question:?} of\n{}", file_of(&lesson))
+                    let expected = answer_by_model(question, &model);
+                    assert_eq!(answer, expected, "{question:?} of\n{}", file_of(&lesson));
                 }
-                Ok(None) => unended += 1,
+                Ok(None) => tally.not_ended += 1,
                 Err(refused) => panic!("{question:?} is refused: {refused}"),
             }
-            asked += 1;
         }
     }
-    println!("{asked} searches, {unended} not ended, {contradictory} contradictory lessons");
-    assert!(unended * 100 < asked, "{unended} of {asked} didn't end");
-    assert!(contradictory > 500, "{contradictory} were contradictory");
+    println!("{lessons} lessons of {size:?}: {tally:?}");
+    tally
+}
+
+#[test]
+fn searches_agree_with_m_and_n() {
+    let small = searches_of(6_000, SMALL, seed());
+    assert!(small.not_ended * 100 < small.asked);
+    assert!(small.contradictory > 500);
+    let middle = searches_of(400, MIDDLE, seed() + 3);
+    assert!(middle.not_ended * 4 < middle.asked);
+    assert!(middle.contradictory > 50);
 }
 
 /// Every set of literals below a bound, as flags.
@@ -270,9 +287,9 @@ fn wrong_desks_are_found_and_explained_in_few_calls() {
     }
 }
 
-/// The room for deep searches holds a walk of thousands of nodes above each other.
+/// The stack for deep searches holds a walk of thousands of nodes above each other.
 #[test]
-fn a_deep_search_has_room() {
+fn a_deep_search_has_its_stack() {
     let book = gen::deep_book(60);
     let program = Program::new(&book, &BTreeSet::new());
     let question = Question {
