@@ -5,6 +5,7 @@ use crate::answer::{Model, Question, Refused, Tree, Verdict};
 use crate::gen::Call;
 use crate::second::Lesson;
 use crate::shrink::shortest_calls;
+use std::fmt;
 
 /// The calls of a lesson, as the comparison makes them.
 pub trait Desk {
@@ -15,6 +16,8 @@ pub trait Desk {
     fn search(&self, question: Question) -> Result<bool, Refused>;
     fn model(&self) -> Result<Model, Refused>;
     fn listing(&self, buffer: &mut [u8]) -> Result<usize, Refused>;
+    /// The book and the facts as bytes, whatever their form: a refused call leaves them.
+    fn state(&self) -> Vec<u8>;
 }
 
 /// Questions whose trees have more nodes than this aren't asked.
@@ -55,8 +58,37 @@ pub fn explain<D: Desk>(calls: Vec<Call>, fresh: impl Fn() -> D) -> String {
     format!("{difference}\nafter these calls on a fresh lesson:\n{calls}")
 }
 
-/// What both desks answer to a call, as text that holds every part of the answer.
-fn both(call: &Call, second: &mut Lesson, other: &mut dyn Desk) -> (String, String) {
+/// What a desk answers to a call, as text that holds every part of the answer.
+#[derive(PartialEq, Eq)]
+struct Told {
+    text: String,
+    refused: bool,
+}
+
+impl fmt::Display for Told {
+    fn fmt(&self, f: &mut fmt::Formatter<'_>) -> fmt::Result {
+        f.write_str(&self.text)
+    }
+}
+
+fn told<T: fmt::Debug>(answer: Result<T, Refused>) -> Told {
+    Told {
+        text: format!("{answer:?}"),
+        refused: answer.is_err(),
+    }
+}
+
+/// What both desks answer to a call. A desk that changes by a refused call tells that too.
+fn both(call: &Call, second: &mut Lesson, other: &mut dyn Desk) -> (Told, Told) {
+    let before = other.state();
+    let (ours, mut theirs) = both_answers(call, second, other);
+    if theirs.refused && other.state() != before {
+        theirs.text += ", and the lesson changed";
+    }
+    (ours, theirs)
+}
+
+fn both_answers(call: &Call, second: &mut Lesson, other: &mut dyn Desk) -> (Told, Told) {
     match call {
         Call::Load(file) => (told(second.load(file)), told(other.load(file))),
         Call::PutIn(l) => (told(second.put_in(*l)), told(other.put_in(*l))),
@@ -68,30 +100,26 @@ fn both(call: &Call, second: &mut Lesson, other: &mut dyn Desk) -> (String, Stri
     }
 }
 
-fn told<T: std::fmt::Debug>(answer: Result<T, Refused>) -> String {
-    format!("{answer:?}")
-}
-
-fn both_searches(question: Question, second: &Lesson, other: &dyn Desk) -> (String, String) {
+/// Both answers to a question; a search without an end isn't begun, and counts as agreed.
+fn both_searches(question: Question, second: &Lesson, other: &dyn Desk) -> (Told, Told) {
     match second.search(question, MOST_VISITS) {
-        Ok(None) => (String::new(), String::new()),
+        Ok(None) => (told(Ok("no end")), told(Ok("no end"))),
         Ok(Some(answer)) => (told(Ok(answer)), told(other.search(question))),
         Err(refused) => (told::<bool>(Err(refused)), told(other.search(question))),
     }
 }
 
 /// Both listings, with every byte of the lent buffers.
-fn both_listings(margin: isize, second: &Lesson, other: &dyn Desk) -> (String, String) {
-    let due = second.listing(&mut vec![0; 8192]).unwrap_or(40);
+fn both_listings(margin: isize, second: &Lesson, other: &dyn Desk) -> (Told, Told) {
+    let due = second.listing(&mut [0; 8192]).unwrap_or(40);
     let length = due.saturating_add_signed(margin);
     let mut ours = vec![UNTOUCHED; length];
     let mut theirs = vec![UNTOUCHED; length];
-    let our_answer = told(second.listing(&mut ours));
-    let their_answer = told(other.listing(&mut theirs));
-    (
-        format!("{our_answer} \"{}\"", ours.escape_ascii()),
-        format!("{their_answer} \"{}\"", theirs.escape_ascii()),
-    )
+    let mut our_answer = told(second.listing(&mut ours));
+    let mut their_answer = told(other.listing(&mut theirs));
+    our_answer.text += &format!(" \"{}\"", ours.escape_ascii());
+    their_answer.text += &format!(" \"{}\"", theirs.escape_ascii());
+    (our_answer, their_answer)
 }
 
 /// After a list: model and listing, and every literal's four searches against M and N.

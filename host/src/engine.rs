@@ -148,33 +148,15 @@ fn members(set: exports::LitSet) -> BTreeSet<usize> {
 /// For the comparison, which runs on a thread with the stack for searches.
 impl Desk for Lesson {
     fn load(&mut self, file: &[u8]) -> Result<(), Refused> {
-        let before = self.clone();
-        let answer = Lesson::load(self, file);
-        assert!(
-            answer.is_ok() || *self == before,
-            "a refused load keeps all"
-        );
-        answer
+        Lesson::load(self, file)
     }
 
     fn put_in(&mut self, literal: usize) -> Result<(), Refused> {
-        let before = self.clone();
-        let answer = Lesson::put_in(self, literal);
-        assert!(
-            answer.is_ok() || *self == before,
-            "a refused call keeps all"
-        );
-        answer
+        Lesson::put_in(self, literal)
     }
 
     fn take_out(&mut self, literal: usize) -> Result<(), Refused> {
-        let before = self.clone();
-        let answer = Lesson::take_out(self, literal);
-        assert!(
-            answer.is_ok() || *self == before,
-            "a refused call keeps all"
-        );
-        answer
+        Lesson::take_out(self, literal)
     }
 
     fn verdict(&self, literal: usize) -> Result<Verdict, Refused> {
@@ -191,5 +173,24 @@ impl Desk for Lesson {
 
     fn listing(&self, buffer: &mut [u8]) -> Result<usize, Refused> {
         Lesson::listing(self, buffer)
+    }
+
+    fn state(&self) -> Vec<u8> {
+        let book = &self.0.book;
+        let mut bytes = vec![self.0.loaded];
+        bytes.extend(book.names.to_le_bytes());
+        bytes.extend(book.rules.to_le_bytes());
+        bytes.extend(book.text);
+        bytes.extend(book.lengths);
+        let tables = book.heads.iter().chain(&book.starts).chain(&book.entries);
+        bytes.extend(tables.flat_map(|number| number.to_le_bytes()));
+        bytes.extend(
+            self.0
+                .facts
+                .words
+                .iter()
+                .flat_map(|word| word.to_le_bytes()),
+        );
+        bytes
     }
 }

@@ -4,6 +4,8 @@
 //! meaning of numbers. A slice is two arguments, a pointer and a count. No function has a condition on
 //! its arguments: every bit pattern of a struct has a meaning.
 
+use std::mem::size_of;
+
 /// A set of literals: bit l % 64 of word l / 64 says whether l is a member.
 #[repr(C)]
 #[derive(Clone, Copy, PartialEq, Eq)]
@@ -80,6 +82,18 @@ pub struct ListingReply {
     pub number: u8,
     pub length: usize,
 }
+
+// The sizes that tests/c/lesson.c asserts of the structs of include/mezhkura.h.
+const _: () = {
+    assert!(size_of::<Book>() == 8344);
+    assert!(size_of::<Lesson>() == 8384);
+    assert!(size_of::<LoadReply>() == 8400);
+    assert!(size_of::<ChangeReply>() == 8392);
+    assert!(size_of::<VerdictReply>() == 2);
+    assert!(size_of::<SearchReply>() == 2);
+    assert!(size_of::<ModelReply>() == 72);
+    assert!(size_of::<ListingReply>() == 16);
+};
 
 /// The kinds of tree that `mezhkura_search` takes.
 pub const TREE_T: u8 = 0;

@@ -14,12 +14,12 @@ impl Random {
         // The state is never 0, and neighbouring seeds start far apart.
         let mut random = Random(seed.wrapping_mul(0x9E37_79B9_7F4A_7C15) | 1);
         for _ in 0..8 {
-            random.next();
+            random.word();
         }
         random
     }
 
-    pub fn next(&mut self) -> u64 {
+    pub fn word(&mut self) -> u64 {
         self.0 ^= self.0 >> 12;
         self.0 ^= self.0 << 25;
         self.0 ^= self.0 >> 27;
@@ -31,7 +31,7 @@ impl Random {
         if bound == 0 {
             return 0;
         }
-        ((self.next() >> 32) as usize) % bound
+        ((self.word() >> 32) as usize) % bound
     }
 
     /// A number from `low` to `high`, both included.
@@ -78,6 +78,13 @@ pub const SMALL: Size = Size {
     body: 3,
 };
 
+/// Trees of most of these books end within a few thousand visits.
+pub const MIDDLE: Size = Size {
+    names: 7,
+    rules: 16,
+    body: 4,
+};
+
 /// The limits of document 01.
 pub const FULL: Size = Size {
     names: MOST_NAMES,
@@ -89,36 +96,50 @@ pub const FULL: Size = Size {
 pub fn book(random: &mut Random, size: Size) -> Book {
     let names = random.below(size.names + 1);
     let rules = random.below(size.rules + 1);
-    book_of(random, names, rules, size.body)
-}
-
-/// A book with all names and rules that a file may have, and as many body literals as fit.
-pub fn full_book(random: &mut Random) -> Book {
-    book_of(random, MOST_NAMES, MOST_RULES, MOST_IN_A_BODY)
-}
-
-fn book_of(random: &mut Random, names: usize, rules: usize, body: usize) -> Book {
-    let mut book = Book {
-        names: (0..names).map(name).collect(),
-        rules: Vec::new(),
-    };
-    if names == 0 {
-        return book;
-    }
-    // In some books explicit negation is rare, so that most of them aren't contradictory.
-    let negated = random.pick(&[1, 3, 8]);
     let mut room = MOST_BODY_LITERALS;
-    for _ in 0..rules {
-        let rule = rule_of(random, names, body.min(room), negated);
-        room -= rule.body.len();
-        book.rules.push(rule);
-    }
-    book
+    let lengths: Vec<usize> = (0..rules)
+        .map(|_| {
+            let length = random.below(size.body.min(room) + 1);
+            room -= length;
+            length
+        })
+        .collect();
+    book_of(random, names, &lengths)
 }
 
-fn rule_of(random: &mut Random, names: usize, most: usize, negated: usize) -> Rule {
+/// A book with all names, rules and body literals that a file may have.
+pub fn full_book(random: &mut Random) -> Book {
+    let mut lengths = [MOST_BODY_LITERALS / MOST_RULES; MOST_RULES];
+    // Moving a body literal from rule to rule keeps their number.
+    for _ in 0..4 * MOST_RULES {
+        let (from, to) = (random.below(MOST_RULES), random.below(MOST_RULES));
+        if lengths[from] > 0 && lengths[to] < MOST_IN_A_BODY {
+            lengths[from] -= 1;
+            lengths[to] += 1;
+        }
+    }
+    book_of(random, MOST_NAMES, &lengths)
+}
+
+/// A book with so many names, and a rule for each length of a body.
+fn book_of(random: &mut Random, names: usize, lengths: &[usize]) -> Book {
+    let negated = random.pick(NEGATED);
+    let lengths = if names == 0 { &[] } else { lengths };
+    Book {
+        names: (0..names).map(name).collect(),
+        rules: lengths
+            .iter()
+            .map(|&length| rule_of(random, names, length, negated))
+            .collect(),
+    }
+}
+
+/// In how many of 16 literals `-` stands. In some books it is rare or absent, so that many of them
+/// aren't contradictory.
+const NEGATED: &[usize] = &[0, 1, 3, 8];
+
+fn rule_of(random: &mut Random, names: usize, length: usize, negated: usize) -> Rule {
     let head = literal_of(random, names, negated);
-    let length = random.below(most + 1);
     let body = (0..length)
         .map(|_| Entry {
             literal: literal_of(random, names, negated),
@@ -133,13 +154,92 @@ fn literal_of(random: &mut Random, names: usize, negated: usize) -> usize {
     2 * random.below(names) + usize::from(random.chance(negated, 16))
 }
 
-/// A file: often a book's, often a damaged one, at times a heap of fields.
+/// A book whose model takes many rounds: each name holds unless the next one is shown, and for each
+/// name there are three rules more that never apply.
+pub fn long_model_book() -> Book {
+    let names = MOST_NAMES;
+    let mut book = Book {
+        names: (0..names).map(name).collect(),
+        rules: Vec::new(),
+    };
+    for n in 0..names - 1 {
+        book.rules.push(Rule {
+            head: 2 * n,
+            body: vec![default(2 * (n + 1))],
+        });
+        for _ in 0..3 {
+            let body = [2 * n, 2 * (n + 1), 2 * (names - 1)].map(objective);
+            book.rules.push(Rule {
+                head: 2 * n,
+                body: body.to_vec(),
+            });
+        }
+    }
+    book
+}
+
+/// A book whose TU-search of literal 0 is about n squared nodes deep and visits few more nodes.
+///
+/// Names x 0 to x (n - 1) follow from each other, the last of them from `not` of every y and from a
+/// name that nothing shows; each y follows from `not` of x 0. So a TU-tree has a path of n literals,
+/// and below its end stands a T-tree for the next y, which opens a TU-tree for x 0 again.
+pub fn deep_book(n: usize) -> Book {
+    let groups = n.div_ceil(MOST_IN_A_BODY);
+    let names = 2 * n + groups + 1;
+    assert!(names <= MOST_NAMES && groups < MOST_IN_A_BODY);
+    let (x, y, group) = (|k| 2 * k, |k| 2 * (n + k), |k| 2 * (2 * n + k));
+    let mut rules = Vec::new();
+    for k in 0..n - 1 {
+        rules.push(Rule {
+            head: x(k),
+            body: vec![objective(x(k + 1))],
+        });
+    }
+    // The name behind the groups has no rule.
+    rules.push(Rule {
+        head: x(n - 1),
+        body: (0..=groups).map(|k| objective(group(k))).collect(),
+    });
+    for k in 0..groups {
+        let members = MOST_IN_A_BODY * k..n.min(MOST_IN_A_BODY * (k + 1));
+        rules.push(Rule {
+            head: group(k),
+            body: members.map(|m| default(y(m))).collect(),
+        });
+    }
+    for k in 0..n {
+        rules.push(Rule {
+            head: y(k),
+            body: vec![default(x(0))],
+        });
+    }
+    Book {
+        names: (0..names).map(name).collect(),
+        rules,
+    }
+}
+
+fn objective(literal: usize) -> Entry {
+    Entry {
+        literal,
+        default: false,
+    }
+}
+
+fn default(literal: usize) -> Entry {
+    Entry {
+        literal,
+        default: true,
+    }
+}
+
+/// A file: often a book's, often a damaged one, at times a few lines of random fields.
 pub fn file(random: &mut Random, size: Size) -> Vec<u8> {
     let written = book(random, size).to_file().into_bytes();
     match random.below(8) {
         0..=2 => written,
         3..=6 => damaged(random, &written),
-        _ => heap_of_fields(random),
+        _ => some_lines(random),
     }
 }
 
@@ -153,7 +253,7 @@ pub fn damaged(random: &mut Random, file: &[u8]) -> Vec<u8> {
 }
 
 fn damaged_once(random: &mut Random, mut file: Vec<u8>) -> Vec<u8> {
-    match random.below(10) {
+    match random.below(11) {
         0 => flip(random, &mut file),
         1 => file.truncate(random.below(file.len() + 1)),
         2 => replace_byte(random, &mut file),
@@ -163,6 +263,7 @@ fn damaged_once(random: &mut Random, mut file: Vec<u8>) -> Vec<u8> {
         6 => file = with_lines(file, |lines| repeat_line(random, lines)),
         7 => file = with_lines(file, |lines| drop_field(random, lines)),
         8 => file = with_lines(file, |lines| add_field(random, lines)),
+        9 => file = with_lines(file, |lines| one_more(random, lines)),
         _ => file = with_lines(file, |lines| add_line(random, lines)),
     }
     file
@@ -226,6 +327,13 @@ fn repeat_line(random: &mut Random, lines: &mut Vec<Vec<u8>>) {
 fn add_line(random: &mut Random, lines: &mut Vec<Vec<u8>>) {
     let line = line_of_fields(random);
     lines.insert(random.below(lines.len() + 1), line);
+}
+
+/// One name, rule or body literal more: too many where the tables are full.
+fn one_more(random: &mut Random, lines: &mut Vec<Vec<u8>>) {
+    let line = random.pick(&["name,one_more\n", "rule,brake\n", "rule,brake,~axle\n"]);
+    let before_end = lines.len().saturating_sub(1);
+    lines.insert(before_end, line.as_bytes().to_vec());
 }
 
 /// Removes a field of a line, with the comma before or behind it.
@@ -311,7 +419,7 @@ fn line_of_fields(random: &mut Random) -> Vec<u8> {
     line
 }
 
-fn heap_of_fields(random: &mut Random) -> Vec<u8> {
+fn some_lines(random: &mut Random) -> Vec<u8> {
     let count = random.below(6);
     let mut file: Vec<u8> = (0..count).flat_map(|_| line_of_fields(random)).collect();
     if random.chance(3, 4) {
@@ -322,49 +430,84 @@ fn heap_of_fields(random: &mut Random) -> Vec<u8> {
 
 /// Files at the edges of every limit, and of every number from 1 to 9.
 pub fn edge_files() -> Vec<Vec<u8>> {
-    let names = |count: usize| -> String { (0..count).map(|n| format!("name,n{n}\n")).collect() };
+    let texts = [table_edges(), name_edges(), length_edges()].concat();
+    texts
+        .into_iter()
+        .map(String::into_bytes)
+        .chain(byte_edges())
+        .collect()
+}
+
+fn names_declared(count: usize) -> String {
+    (0..count).map(|n| format!("name,n{n}\n")).collect()
+}
+
+/// Names, rules and body literals, around the size of their tables.
+fn table_edges() -> Vec<String> {
     let rules = |count: usize| "rule,n0\n".repeat(count);
     let body = |count: usize| format!("rule,n0{}\n", ",~-n0".repeat(count));
-    let bodies = body(16).repeat(128);
-    let long_name = |length: usize| "x".repeat(length);
+    let one = names_declared(1);
     let mut files = Vec::new();
     for count in [0, 1, 127, 128, 129, 130] {
-        files.push(names(count) + "end\n");
+        files.push(names_declared(count) + "end\n");
     }
-    files.push(names(128) + "name,n0\nend\n");
+    files.push(names_declared(128) + "name,n0\nend\n");
     for count in [511, 512, 513] {
-        files.push(names(1) + &rules(count) + "end\n");
-        files.push(names(1) + &rules(count) + "rule,absent\nend\n");
+        files.push(format!("{one}{}end\n", rules(count)));
+        files.push(format!("{one}{}rule,absent\nend\n", rules(count)));
     }
     for count in [15, 16, 17, 18, 600] {
-        files.push(names(1) + &body(count) + "end\n");
+        files.push(format!("{one}{}end\n", body(count)));
     }
-    for more in [body(0), body(1), body(16)] {
-        files.push(names(1) + &bodies + &more + "end\n");
+    for more in [0, 1, 16] {
+        files.push(format!("{one}{}{}end\n", body(16).repeat(128), body(more)));
     }
-    files.push(names(1) + &body(15) + &body(16).repeat(127) + &body(2) + "end\n");
-    for length in [0, 1, 15, 16, 17, 18, 255, 256, 257, 300] {
-        let name = long_name(length);
-        files.push(format!("name,{name}\nrule,{name},~-{name}\nend\n"));
-        files.push(format!("name,a\nrule,a,{name}\nend\n"));
-        files.push(format!("name,a\nrule,-{name}\nend\n"));
-    }
-    for length in [
-        59_999, 60_000, 60_001, 60_002, 65_535, 65_536, 65_537, 70_000,
-    ] {
-        files.push(",".repeat(length - 1) + "\n");
-        files.push("\n".repeat(length));
-        files.push("end\n".to_string() + &"x".repeat(length - 5) + "\n");
-        files.push("a".repeat(length));
-        files.push("end\n".to_string() + &"\u{7f}".repeat(length - 4));
-    }
-    let mut files: Vec<Vec<u8>> = files.into_iter().map(String::into_bytes).collect();
-    for byte in 0..=255 {
-        files.push([b"name,a", &[byte][..], b"\nend\n"].concat());
-        files.push([b"name,", &[byte][..], b"\nend\n"].concat());
-        files.push(vec![byte]);
-    }
+    let one_less = body(15) + &body(16).repeat(127);
+    files.push(format!("{one}{one_less}{}end\n", body(1)));
+    files.push(format!("{one}{one_less}{}end\n", body(2)));
     files
+}
+
+/// Names around the lengths that a name and a byte can have.
+fn name_edges() -> Vec<String> {
+    let lengths = [0, 1, 15, 16, 17, 18, 255, 256, 257, 300];
+    let of_length = |length| {
+        let name = "x".repeat(length);
+        [
+            format!("name,{name}\nrule,{name},~-{name}\nend\n"),
+            format!("name,a\nrule,a,{name}\nend\n"),
+            format!("name,a\nrule,-{name}\nend\n"),
+        ]
+    };
+    lengths.into_iter().flat_map(of_length).collect()
+}
+
+/// Files around 60,000 bytes, and around the size of a buffer of 65,536.
+fn length_edges() -> Vec<String> {
+    let lengths = [
+        59_999, 60_000, 60_001, 60_002, 65_535, 65_536, 65_537, 70_000,
+    ];
+    let of_length = |length: usize| {
+        [
+            ",".repeat(length - 1) + "\n",
+            "\n".repeat(length),
+            format!("end\n{}\n", "x".repeat(length - 5)),
+            "a".repeat(length),
+            format!("end\n{}", "\u{7f}".repeat(length - 4)),
+        ]
+    };
+    lengths.into_iter().flat_map(of_length).collect()
+}
+
+/// Every byte as a name, behind a name and alone.
+fn byte_edges() -> impl Iterator<Item = Vec<u8>> {
+    (0..=255u8).flat_map(|byte| {
+        [
+            [b"name,a", &[byte][..], b"\nend\n"].concat(),
+            [b"name,", &[byte][..], b"\nend\n"].concat(),
+            vec![byte],
+        ]
+    })
 }
 
 /// One call on a lesson.
@@ -455,7 +598,7 @@ fn any_literal(random: &mut Random, size: Size) -> usize {
 #[cfg(test)]
 mod tests {
     use super::*;
-    use crate::second::read;
+    use crate::second::{program_output, read};
 
     #[test]
     fn a_generated_book_is_read_as_itself() {
@@ -469,6 +612,31 @@ mod tests {
             assert_eq!(full.body_literals(), MOST_BODY_LITERALS);
             assert_eq!(read(full.to_file().as_bytes()), Ok(full));
         }
+    }
+
+    #[test]
+    fn damaged_full_books_meet_number_8() {
+        let mut random = Random::new(4);
+        let mut met = 0;
+        for _ in 0..100 {
+            let full = full_book(&mut random).to_file();
+            let file = damaged(&mut random, full.as_bytes());
+            met += usize::from(read(&file).is_err_and(|refused| refused.number() == 8));
+        }
+        assert!(met >= 5, "number 8 was met {met} times");
+    }
+
+    #[test]
+    fn full_books_have_models_and_contradictions() {
+        let mut random = Random::new(3);
+        let outputs: Vec<String> = (0..60)
+            .map(|_| program_output(full_book(&mut random).to_file().as_bytes()))
+            .collect();
+        let starting = |with: &str| outputs.iter().filter(|o| o.starts_with(with)).count();
+        let undefined = outputs.iter().filter(|o| o.contains("undefined")).count();
+        println!("{} models, {undefined} with undefined", starting("model,"));
+        assert!(starting("model,") >= 10 && starting("contradiction,") >= 10);
+        assert!(undefined >= 5);
     }
 
     #[test]

@@ -1,4 +1,4 @@
-//! Room for deep searches.
+//! The stack for deep searches.
 
 use std::thread;
 

@@ -1,10 +1,10 @@
 //! On random small books: the searches agree with M and N, M and N with the published notions, and
 //! the comparison of two desks finds wrong ones.
 
-use mezhkura::answer::{Model, Question, Refused, Verdict};
+use mezhkura::answer::{Model, Question, Refused, Tree, Verdict};
 use mezhkura::compare::{answer_by_model, explain, first_difference, questions, Desk};
-use mezhkura::gen::{self, Random, Size, SMALL};
-use mezhkura::second::{contradictory_name, gamma, Lesson, Program};
+use mezhkura::gen::{self, Random, Size, MIDDLE, SMALL};
+use mezhkura::second::{contradictory_name, gamma, Lesson, Program, Walk};
 use mezhkura::stack::with_search_stack;
 use std::collections::BTreeSet;
 
@@ -34,30 +34,47 @@ fn file_of(lesson: &Lesson) -> String {
     format!("{}facts {:?}", book.to_file(), lesson.facts())
 }
 
-#[test]
-fn searches_agree_with_m_and_n() {
-    let mut random = Random::new(seed());
-    let (mut asked, mut unended, mut contradictory) = (0, 0, 0);
-    for _ in 0..6_000 {
-        let lesson = random_lesson(&mut random, SMALL);
+/// How the searches of some random lessons went.
+#[derive(Debug, Default)]
+struct Tally {
+    asked: usize,
+    not_ended: usize,
+    contradictory: usize,
+}
+
+/// Asks every literal's four questions of so many random lessons.
+fn searches_of(lessons: usize, size: Size, seed: u64) -> Tally {
+    let mut random = Random::new(seed);
+    let mut tally = Tally::default();
+    for _ in 0..lessons {
+        let lesson = random_lesson(&mut random, size);
         let model = lesson.model().expect("a book is loaded");
-        contradictory += usize::from(model.contradictory);
+        tally.contradictory += usize::from(model.contradictory);
         let literals = lesson.book().map_or(0, |book| book.literals());
         for question in (0..literals).flat_map(questions) {
-            let expected = answer_by_model(question, &model);
-            match lesson.search(question, 100_000) {
+            tally.asked += 1;
+            match lesson.search(question, 20_000) {
                 Ok(Some(answer)) => {
-                    assert_eq!(answer, expected, "{question:?} of\n{}", file_of(&lesson))
+                    let expected = answer_by_model(question, &model);
+                    assert_eq!(answer, expected, "{question:?} of\n{}", file_of(&lesson));
                 }
-                Ok(None) => unended += 1,
+                Ok(None) => tally.not_ended += 1,
                 Err(refused) => panic!("{question:?} is refused: {refused}"),
             }
-            asked += 1;
         }
     }
-    println!("{asked} searches, {unended} not ended, {contradictory} contradictory lessons");
-    assert!(unended * 100 < asked, "{unended} of {asked} didn't end");
-    assert!(contradictory > 500, "{contradictory} were contradictory");
+    println!("{lessons} lessons of {size:?}: {tally:?}");
+    tally
+}
+
+#[test]
+fn searches_agree_with_m_and_n() {
+    let small = searches_of(6_000, SMALL, seed());
+    assert!(small.not_ended * 100 < small.asked);
+    assert!(small.contradictory > 500);
+    let middle = searches_of(400, MIDDLE, seed() + 3);
+    assert!(middle.not_ended * 4 < middle.asked);
+    assert!(middle.contradictory > 50);
 }
 
 /// Every set of literals below a bound, as flags.
@@ -157,6 +174,7 @@ enum How {
     ModelOfTheBookAlone,
     VerdictOfAContradiction,
     LoadKeepsFacts,
+    RefusedPutInTakesOut,
 }
 
 impl Desk for Wrong {
@@ -174,6 +192,9 @@ impl Desk for Wrong {
     fn put_in(&mut self, literal: usize) -> Result<(), Refused> {
         match self.how {
             How::PutInStoresNothing => self.lesson.clone().put_in(literal),
+            How::RefusedPutInTakesOut => self.lesson.put_in(literal).inspect_err(|_| {
+                let _ = self.lesson.take_out(literal);
+            }),
             _ => self.lesson.put_in(literal),
         }
     }
@@ -221,6 +242,10 @@ impl Desk for Wrong {
             _ => self.lesson.listing(buffer),
         }
     }
+
+    fn state(&self) -> Vec<u8> {
+        format!("{:?}", self.lesson).into_bytes()
+    }
 }
 
 fn random_lists(how: How, lists: usize) -> Option<String> {
@@ -253,6 +278,7 @@ fn wrong_desks_are_found_and_explained_in_few_calls() {
         How::ModelOfTheBookAlone,
         How::VerdictOfAContradiction,
         How::LoadKeepsFacts,
+        How::RefusedPutInTakesOut,
     ] {
         let text = random_lists(how, 2_000).unwrap_or_else(|| panic!("{how:?} wasn't found"));
         println!("{how:?}: {text}");
@@ -261,33 +287,20 @@ fn wrong_desks_are_found_and_explained_in_few_calls() {
     }
 }
 
-/// A ladder of `n` and `n` names is as deep as n squared: the room for deep searches holds it.
+/// The stack for deep searches holds a walk of thousands of nodes above each other.
 #[test]
-fn a_deep_search_has_room() {
-    let n = 40;
-    let mut file: String = (0..n).map(|k| format!("name,x{k}\nname,y{k}\n")).collect();
-    for k in 0..n {
-        file += &format!("rule,y{k},~x0\n");
-        if k + 1 < n {
-            file += &format!("rule,x{k},x{}\n", k + 1);
-        }
-    }
-    for from in (0..n).step_by(16) {
-        let leaves: String = (from..n.min(from + 16))
-            .map(|k| format!(",~y{k}"))
-            .collect();
-        file += &format!("rule,x{}{leaves}\n", n - 1);
-    }
-    file += "end\n";
-    let mut lesson = Lesson::fresh();
-    lesson.load(file.as_bytes()).expect("the file loads");
-    let facts = BTreeSet::new();
-    let program = Program::new(lesson.book().expect("a book is loaded"), &facts);
-    let deepest = with_search_stack(|| {
-        let mut walk = mezhkura::second::Walk::new(&program, 100_000);
-        let question = questions(0).nth(1).expect("the TU-search of x0");
-        walk.ask(question);
-        walk.deepest
+fn a_deep_search_has_its_stack() {
+    let book = gen::deep_book(60);
+    let program = Program::new(&book, &BTreeSet::new());
+    let question = Question {
+        literal: 0,
+        default: false,
+        tree: Tree::TU,
+    };
+    let (answer, deepest) = with_search_stack(|| {
+        let mut walk = Walk::new(&program, 100_000);
+        (walk.ask(question), walk.deepest)
     });
-    assert!(deepest > 500, "the walk was {deepest} nodes deep");
+    assert_eq!(answer, Some(program.halves().nonfalse[0]));
+    assert!(deepest > 3_600, "the walk was {deepest} nodes deep");
 }

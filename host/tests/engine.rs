@@ -3,7 +3,7 @@
 
 use mezhkura::compare::{explain, first_difference};
 use mezhkura::engine::Lesson;
-use mezhkura::gen::{self, Call, Random, FULL, SMALL};
+use mezhkura::gen::{self, Call, Random, FULL, MIDDLE, SMALL};
 use mezhkura::second;
 use mezhkura::stack::with_search_stack;
 use std::fs;
@@ -64,6 +64,9 @@ fn lists_of_calls_agree() {
         let mut random = Random::new(seed());
         for _ in 0..20_000 {
             compare(gen::calls(&mut random, SMALL));
+        }
+        for _ in 0..500 {
+            compare(gen::calls(&mut random, MIDDLE));
         }
     });
 }

@@ -12,10 +12,9 @@ pub const MOST_LETTERS: usize = 16;
 
 /// The other objective literal of the same name.
 pub fn complement(literal: usize) -> usize {
-    if literal % 2 == 0 {
-        literal + 1
-    } else {
-        literal - 1
+    match literal % 2 {
+        0 => literal + 1,
+        _ => literal - 1,
     }
 }
 

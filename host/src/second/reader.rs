@@ -43,6 +43,8 @@ fn judge_whole(file: &[u8]) -> Result<(), Fault> {
 #[derive(Default)]
 struct Reading {
     book: Book,
+    /// How many body literals the rules have in all.
+    body_literals: usize,
     ended: bool,
 }
 
@@ -66,13 +68,13 @@ impl Reading {
 
     fn declare(&mut self, field: &[u8]) -> Result<(), Fault> {
         let name = name_of(field)?;
-        if self.book.number_of(&name).is_some() {
+        if self.book.number_of(name).is_some() {
             return Err(Fault::DeclaredBefore);
         }
         if self.book.names.len() == MOST_NAMES {
             return Err(Fault::TableFull);
         }
-        self.book.names.push(name);
+        self.book.names.push(name.to_string());
         Ok(())
     }
 
@@ -92,19 +94,17 @@ impl Reading {
             .map(|written| self.entry(written))
             .collect::<Result<_, _>>()?;
         if self.book.rules.len() == MOST_RULES
-            || self.book.body_literals() + body.len() > MOST_BODY_LITERALS
+            || self.body_literals + body.len() > MOST_BODY_LITERALS
         {
             return Err(Fault::TableFull);
         }
+        self.body_literals += body.len();
         self.book.rules.push(Rule { head, body });
         Ok(())
     }
 
     fn entry(&self, written: &Written) -> Result<Entry, Fault> {
-        let number = self
-            .book
-            .number_of(&written.name)
-            .ok_or(Fault::Undeclared)?;
+        let number = self.book.number_of(written.name).ok_or(Fault::Undeclared)?;
         Ok(Entry {
             literal: 2 * number + usize::from(written.negated),
             default: written.default,
@@ -113,14 +113,14 @@ impl Reading {
 }
 
 /// A literal as a field spells it.
-struct Written {
+struct Written<'a> {
     default: bool,
     negated: bool,
-    name: String,
+    name: &'a str,
 }
 
-impl Written {
-    fn of(field: &[u8]) -> Result<Written, Fault> {
+impl<'a> Written<'a> {
+    fn of(field: &'a [u8]) -> Result<Written<'a>, Fault> {
         let (default, rest) = without(b'~', field);
         let (negated, rest) = without(b'-', rest);
         Ok(Written {
@@ -139,11 +139,11 @@ fn without(mark: u8, field: &[u8]) -> (bool, &[u8]) {
     }
 }
 
-fn name_of(field: &[u8]) -> Result<String, Fault> {
+fn name_of(field: &[u8]) -> Result<&str, Fault> {
     let known = |byte: &u8| matches!(byte, 97..=122 | 48..=57 | 95);
     let long_enough = (1..=MOST_LETTERS).contains(&field.len());
     if !long_enough || !field.iter().all(known) || !matches!(field[0], 97..=122) {
         return Err(Fault::Malformed);
     }
-    Ok(field.iter().map(|&byte| char::from(byte)).collect())
+    Ok(std::str::from_utf8(field).expect("letters, digits and underscores are ASCII"))
 }

@@ -1,0 +1,101 @@
+/* The marking engine for C, over the archive libexports.a.
+ *
+ * A lesson is a value: a call takes it, and the calls that change it return the lesson after the call. A call
+ * that is turned down returns the lesson as it was, and changes no byte of a lent buffer. Every bit pattern of
+ * a struct has a meaning, so a call has no condition on its arguments but that pointers and counts belong
+ * together.
+ *
+ * number: 0 if the call is accepted; 1 to 9 for a refused file; 20 no book is loaded; 21 no such literal; 22 put
+ * in now; 23 not put in; 24 contradictory; 25 buffer too short.
+ *
+ * A search takes up to 28 MB of stack: call mezhkura_search on a thread that has them.
+ */
+#ifndef MEZHKURA_H
+#define MEZHKURA_H
+
+#include <stddef.h>
+#include <stdint.h>
+
+#ifdef __cplusplus
+extern "C" {
+#endif
+
+/* A set of literals: bit l % 64 of word l / 64 says whether l is a member. */
+typedef struct {
+    uint64_t words[4];
+} mezhkura_litset;
+
+/* A loaded marking book. */
+typedef struct {
+    size_t names;
+    size_t rules;
+    uint8_t text[2048];
+    uint8_t lengths[128];
+    uint16_t heads[512];
+    uint16_t starts[513];
+    uint16_t entries[2048];
+} mezhkura_book;
+
+/* A lesson: whether a book is loaded, the book, and the facts put in. */
+typedef struct {
+    uint8_t loaded;
+    mezhkura_book book;
+    mezhkura_litset facts;
+} mezhkura_lesson;
+
+/* line: that of a refused file, 0 for the whole file. */
+typedef struct {
+    uint8_t number;
+    size_t line;
+    mezhkura_lesson lesson;
+} mezhkura_load_reply;
+
+typedef struct {
+    uint8_t number;
+    mezhkura_lesson lesson;
+} mezhkura_change_reply;
+
+enum { MEZHKURA_FALSE = 0, MEZHKURA_TRUE = 1, MEZHKURA_UNDEFINED = 2 };
+
+typedef struct {
+    uint8_t number;
+    uint8_t verdict;
+} mezhkura_verdict_reply;
+
+enum { MEZHKURA_T = 0, MEZHKURA_TU = 1 };
+
+/* holds: 1 is yes, 0 is no. */
+typedef struct {
+    uint8_t number;
+    uint8_t holds;
+} mezhkura_search_reply;
+
+/* M, N, and 1 where the lesson is contradictory. */
+typedef struct {
+    uint8_t number;
+    uint8_t contradictory;
+    mezhkura_litset truths;
+    mezhkura_litset nonfalse;
+} mezhkura_model_reply;
+
+typedef struct {
+    uint8_t number;
+    size_t length;
+} mezhkura_listing_reply;
+
+/* Literal 2n is name n, and 2n + 1 its explicit negation ("shown not to be"). */
+mezhkura_lesson mezhkura_fresh(void);
+mezhkura_load_reply mezhkura_load(mezhkura_lesson lesson, const uint8_t *file, size_t file_len);
+mezhkura_change_reply mezhkura_put_in(mezhkura_lesson lesson, size_t literal);
+mezhkura_change_reply mezhkura_take_out(mezhkura_lesson lesson, size_t literal);
+mezhkura_verdict_reply mezhkura_verdict(mezhkura_lesson lesson, size_t literal);
+/* is_default: 1 where `~` stands before the literal, else 0. tree: MEZHKURA_T or MEZHKURA_TU. */
+mezhkura_search_reply mezhkura_search(mezhkura_lesson lesson, size_t literal, uint8_t is_default, uint8_t tree);
+mezhkura_model_reply mezhkura_model(mezhkura_lesson lesson);
+mezhkura_listing_reply mezhkura_listing(mezhkura_lesson lesson, uint8_t *buffer, size_t buffer_len);
+
+#ifdef __cplusplus
+}
+#endif
+
+#endif

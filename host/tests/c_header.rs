@@ -1,0 +1,61 @@
+//! The C header is one that a C compiler accepts, and a C program runs over the engine's archive.
+
+use std::path::{Path, PathBuf};
+use std::process::{Command, Output};
+
+fn package() -> &'static Path {
+    Path::new(env!("CARGO_MANIFEST_DIR"))
+}
+
+/// Runs the C compiler with strict words on the program of the tests, or says that there is none.
+fn compile(more: &[&str]) -> Option<Output> {
+    let compiler = std::env::var("CC").unwrap_or_else(|_| "cc".to_string());
+    let output = Command::new(&compiler)
+        .args(["-std=c11", "-Wall", "-Wextra", "-pedantic", "-Werror", "-I"])
+        .arg(package().join("include"))
+        .arg(package().join("tests/c/lesson.c"))
+        .args(more)
+        .output();
+    match output {
+        Ok(output) => Some(output),
+        Err(error) => {
+            println!("SKIPPED: the C compiler `{compiler}` doesn't start: {error}");
+            None
+        }
+    }
+}
+
+fn assert_success(output: &Output) {
+    let text = String::from_utf8_lossy(&output.stderr);
+    assert!(output.status.success(), "{text}");
+}
+
+#[test]
+fn a_c_compiler_accepts_the_header() {
+    if let Some(output) = compile(&["-fsyntax-only"]) {
+        assert_success(&output);
+    }
+}
+
+#[test]
+#[cfg_attr(not(feature = "engine"), ignore = "needs the engine's archive")]
+fn a_c_program_runs_a_lesson() {
+    let folder = match std::env::var_os("MEZHKURA_ARCHIVE_DIR") {
+        Some(folder) => PathBuf::from(folder),
+        None => package().join("../target/staticlib"),
+    };
+    let archive = folder.join("libexports.a");
+    let program = Path::new(env!("CARGO_TARGET_TMPDIR")).join("lesson");
+    let words = [archive.as_path(), Path::new("-o"), program.as_path()]
+        .map(|p| p.to_str().expect("a path in UTF-8"));
+    let Some(output) = compile(&words) else {
+        return;
+    };
+    assert_success(&output);
+    let run = Command::new(program).output().expect("the program starts");
+    assert_success(&run);
+    // Literals 0 and 2 are true: word 0 of M and of N is 1 + 4.
+    let expected = "0 0 22 23\n0 1\n0 1\n0 0 5 5\n0 25\n\
+        model,2,1,1\n0,brake_held,true,false\n1,may_park,true,false\n";
+    assert_eq!(String::from_utf8_lossy(&run.stdout), expected);
+}
