@@ -2,3 +2,5 @@
 pub mod Order
 pub mod Meaning
 pub mod Replies
+pub mod Left
+pub mod Demand3
