@@ -43,7 +43,7 @@ answer-due P T true A = not-same (agreement P A .2)
 answer-due P TU true A = not-same (agreement P A .3)
 
 -- a literal of a book tells that there is one
-some-book : (b : Shelf) (A : ℕ) → A ∈ inBook b → noneLoaded b ≡ false
+pub some-book : (b : Shelf) (A : ℕ) → A ∈ inBook b → noneLoaded b ≡ false
 unfolding inBook
 some-book empty A i = let h = ltb-true A 0 i in absurd (omega arith)
 some-book (holding names rules) A i = refl

@@ -4,3 +4,6 @@ pub mod Meaning
 pub mod Replies
 pub mod Left
 pub mod Demand3
+pub mod Sound
+pub mod Demand1
+pub mod Demand2
