@@ -2,7 +2,7 @@
 -- meaning of the lesson to what `after` makes of it.
 use mathlib.Core.Path.{_≡_, refl, sym, _∙_, ap}
 use mathlib.Core.Bool.{true}
-use mathlib.Core.List.{List, [], _∷_}
+use mathlib.Core.List.{List, [], _∷_, _++_}
 use Prim.Native.Nat.{ℕ}
 use native.Mathlib.Omega.{arith}
 use Rattle.wfsx.specs.Sets.{Set, ∅}
@@ -79,3 +79,11 @@ run-means (c ∷ cs) l m h =
 
 pub left-means : (cs : List Call) (l m : Lesson) → Fresh l → Run l cs m → meaningOf m ≡ left cs
 left-means cs l m f h = run-means cs l m h ∙ ap (λ (d : Listed). afterAll d cs) (fresh-means l f)
+
+-- Every call of a run is made on a lesson to which the calls before it ran: so what holds at the end of every run holds at every call of one.
+pub run-parts : (cs : List Call) (c : Call) (ds : List Call) (l n : Lesson) → Run l (cs ++ c ∷ ds) n
+    → (m : Lesson) × Run l cs m × (r : ReplyTo c) × Meets m c r × Run (lessonIn c r) ds n
+run-parts [] c ds l n h = (l, refl, h .0, h .1, h .2)
+run-parts (b ∷ cs) c ds l n h =
+    let w = run-parts cs c ds (lessonIn b (h .0)) n (h .2) in
+    (w .0, (h .0, h .1, w .1), w .2, w .3, w .4)

@@ -34,7 +34,7 @@ pub record Sound (d : Listed) : Type 0 where
 
 -- ---- each call keeps it
 
-sound-nothing : Sound nothing
+pub sound-nothing : Sound nothing
 sound-nothing =
     record { few-names = omega arith; heads-known = λ r i. absurd (List·Memᴰ·not-nil i); facts-known = λ A h. absurd (true≢false (sym h)) }
 
@@ -49,7 +49,7 @@ sound-read d file s (accepted names rules) e =
     }
 sound-read d file s (reader.refused k line) e = s
 
-given-inside : {X : Type 0} (d : Listed) (A : ℕ) (said : Said X) (x : X) → inOrder d A said ≡ gives x → A ∈ inBook (d .book)
+pub given-inside : {X : Type 0} (d : Listed) (A : ℕ) (said : Said X) (x : X) → inOrder d A said ≡ gives x → A ∈ inBook (d .book)
 unfolding inOrder
 given-inside {X} d A said x e = go (noneLoaded (d .book)) (inBook (d .book) A) e
   where
@@ -75,7 +75,7 @@ sound-drop d A s (gives x) =
     record { few-names = s .few-names; heads-known = s .heads-known; facts-known = λ B h. s .facts-known B (and-l (d .facts B) (not (eqb B A)) h) }
 sound-drop d A s (refused n) = s
 
-sound-after : (d : Listed) (c : Call) → Sound d → Sound (after d c)
+pub sound-after : (d : Listed) (c : Call) → Sound d → Sound (after d c)
 unfolding after
 sound-after d (load file) s = sound-read d file s (readFile file) refl
 sound-after d (put-in A) s = sound-add d A s (putInSays d A) refl
