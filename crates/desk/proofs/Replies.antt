@@ -47,7 +47,7 @@ abbrev lineIn : Answer → ℕ
 lineIn Accepted = 0
 lineIn (Refused k line) = line
 
-refused-accepted : (k line : ℕ) → _≡_ {A = Answer} (Refused k line) Accepted → ⊥
+pub refused-accepted : (k line : ℕ) → _≡_ {A = Answer} (Refused k line) Accepted → ⊥
 refused-accepted k line e = true≢false (sym (ap isAccepted e))
 
 module _ (l : Lesson) (q : Loaded) where

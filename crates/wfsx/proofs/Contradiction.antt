@@ -16,7 +16,7 @@ use Rattle.wfsx.proofs.Program.{compl-even, compl-odd, of-name}
 use Rattle.wfsx.proofs.Supported.{heads}
 use Rattle.wfsx.proofs.Operators.{round-map, Γ-ind, Γs-antitone, Γs-blocks, Γs-has, M-fixpoint, M-least, I⊆M, N-is, M-head}
 
-heads-in : (P : Program) (base : Set) → Heads⊆ P base → (A : ℕ) → A isIn heads P → A ∈ base
+pub heads-in : (P : Program) (base : Set) → Heads⊆ P base → (A : ℕ) → A isIn heads P → A ∈ base
 heads-in [] base h A m = elim m [ ]
 heads-in (r ∷ P) base h A (List·Memᴰ·head e) = rw e (h r (List·Memᴰ·head refl))
 heads-in (r ∷ P) base h A (List·Memᴰ·tail m) = heads-in P base (λ q i. h q (List·Memᴰ·tail i)) A m
