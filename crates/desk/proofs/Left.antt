@@ -12,7 +12,8 @@ use Rattle.book.specs.declared.Book.{Book}
 use Rattle.book.proofs.Back.{Storable, book-names, book-rules}
 use Rattle.reader.specs.File.{Outcome, accepted, readFile}
 use Rattle.reader.specs.File as reader
-use Rattle.reader.proofs.Within.{Within, accepted-within, name-length}
+use Rattle.reader.proofs.Within.{Within, accepted-within}
+use Rattle.scan.proofs.Bytes.{name-fits}
 use Rattle.desk.specs.Listed.{Listed, holding, putInSays, takeOutSays, Said, Ack}
 use Rattle.desk.specs.Listed as listed
 use Rattle.desk.specs.Calls.{shelfOf, meaningOf, LessonIs, Fresh, LoadsAs, factSays, FactsAfter}
@@ -46,7 +47,7 @@ module _ (file : List ℕ) (names : List (List ℕ)) (rules : List Rule) (e : re
   accepted-means : shelfOf 1 (bookOf names rules) ≡ holding names rules
   unfolding shelfOf
   accepted-means =
-      rw (book-names names rules (λ n i. name-length n (within .names-fit n i) .1) (within .few-names), book-rules names rules storable (within .few-rules)) refl
+      rw (book-names names rules (λ n i. name-fits n (within .names-fit n i) .1) (within .few-names), book-rules names rules storable (within .few-rules)) refl
 
 load-means : (l : Lesson) (file : List ℕ) (r : LoadReply) (o : Outcome) → readFile file ≡ o → LoadsAs l o r → meaningOf (r .lesson) ≡ reads (meaningOf l) o
 load-means l file r (accepted names rules) e h =

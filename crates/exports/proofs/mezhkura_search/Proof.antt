@@ -28,11 +28,12 @@ returns : tie.Need-returns
 returns c =
     let d = c .before .before in
     let a = d .before .before .before .args in
-    let asked = subst (λ (x : Bool). Answers (a .lesson) (a .literal) (treeOf (d .before .kind-of .result)) (questionOf (a .literal) x) (d .ask .result)) (d .before .before .is-set .ensures) (d .ask .ensures) in
-    ( d .ask .result
-    , subst (λ (x : Tree). Answers (a .lesson) (a .literal) (treeOf x) (questionOf (a .literal) (isSet (a .default))) (d .ask .result)) (d .before .kind-of .ensures) asked
-    , c .before .ask-number .ensures
-    , c .ask-value .ensures)
+    let asked = subst (λ (x : Bool). Answers (a .lesson) (a .literal) (treeOf (d .before .kind-of .result)) (questionOf (a .literal) x) (d .ask .result)) (d .before .before .is-set .ensures) (d .ask .ensures) in (
+      d .ask .result,
+      subst (λ (x : Tree). Answers (a .lesson) (a .literal) (treeOf x) (questionOf (a .literal) (isSet (a .default))) (d .ask .result)) (d .before .kind-of .ensures) asked,
+      c .before .ask-number .ensures,
+      c .ask-value .ensures,
+    )
 
 pub mezhkura-search-spec : {M : Type 1} → statement M
 mezhkura-search-spec =
