@@ -100,10 +100,14 @@ fn both_answers(call: &Call, second: &mut Lesson, other: &mut dyn Desk) -> (Told
     }
 }
 
-/// Both answers to a question; a search without an end isn't begun, and counts as agreed.
+/// Both answers to a question. One with too many nodes isn't asked: the other desk may walk its trees
+/// in another order.
 fn both_searches(question: Question, second: &Lesson, other: &dyn Desk) -> (Told, Told) {
+    if second.search_is_short(question, MOST_VISITS) == Ok(false) {
+        return (told(Ok("not asked")), told(Ok("not asked")));
+    }
     match second.search(question, MOST_VISITS) {
-        Ok(None) => (told(Ok("no end")), told(Ok("no end"))),
+        Ok(None) => (told(Ok("no end")), told(other.search(question))),
         Ok(Some(answer)) => (told(Ok(answer)), told(other.search(question))),
         Err(refused) => (told::<bool>(Err(refused)), told(other.search(question))),
     }
@@ -175,10 +179,10 @@ fn difference_of_search(
     second: &Lesson,
     other: &dyn Desk,
 ) -> Option<String> {
-    // The second implementation is asked first, so that a search without an end isn't begun.
-    let Ok(Some(ours)) = second.search(question, MOST_VISITS) else {
+    if second.search_is_short(question, MOST_VISITS) != Ok(true) {
         return None;
-    };
+    }
+    let ours = second.search(question, MOST_VISITS).ok()??;
     let expected = answer_by_model(question, model);
     let theirs = other.search(question);
     let call = Call::Search(question);

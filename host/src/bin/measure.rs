@@ -146,7 +146,9 @@ fn print_searches() {
     println!();
     println!("| book | search | visits | depth | engine, µs | second, µs | engine / second |");
     println!("|---|---|---|---|---|---|---|");
-    for sample in samples() {
+    // In the random book a walk that goes in another order than the second implementation's may not end.
+    let with_an_end = |sample: &Sample| !sample.label.starts_with("full: random");
+    for sample in samples().into_iter().filter(with_an_end) {
         for tree in [Tree::T, Tree::TU] {
             print_search(&sample, tree);
         }

@@ -4,7 +4,7 @@ use super::book::Book;
 use super::listing::listing;
 use super::model::{contradictory_name, verdict, Program};
 use super::reader::read;
-use super::trees::search;
+use super::trees::{search, trees_are_small};
 use crate::answer::{Model, Question, Refused, Verdict};
 use std::collections::BTreeSet;
 
@@ -68,6 +68,13 @@ impl Lesson {
         let book = self.book_with(question.literal)?;
         let program = Program::new(book, &self.facts);
         Ok(search(&program, question, visits))
+    }
+
+    /// Whether a walk of the question's trees ends within so many visits, in whatever order it goes.
+    pub fn search_is_short(&self, question: Question, visits: u64) -> Result<bool, Refused> {
+        let book = self.book_with(question.literal)?;
+        let program = Program::new(book, &self.facts);
+        Ok(trees_are_small(&program, question, visits))
     }
 
     pub fn model(&self) -> Result<Model, Refused> {

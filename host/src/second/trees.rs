@@ -9,6 +9,17 @@ pub fn search(program: &Program, question: Question, visits: u64) -> Option<bool
     Walk::new(program, visits).ask(question)
 }
 
+/// Whether all trees of a question have at most so many nodes together: then a walk ends within so many
+/// visits, in whatever order it goes and whatever it leaves out.
+pub fn trees_are_small(program: &Program, question: Question, nodes: u64) -> bool {
+    let entry = Entry {
+        literal: question.literal,
+        default: question.default,
+    };
+    let mut walk = Walk::new(program, nodes);
+    walk.count(entry, &Place::root(question.tree)).is_some()
+}
+
 /// A walk of the pruned trees of one program.
 pub struct Walk<'a> {
     program: &'a Program,
@@ -39,6 +50,13 @@ impl Place {
             global_t: Vec::new(),
             depth: 0,
         }
+    }
+
+    /// Whether pruning rule 1 or 4 fails an objective literal here.
+    fn prunes(&self, literal: usize) -> bool {
+        let rule_1 = self.local.contains(&literal);
+        let rule_4 = self.tree == Tree::T && self.global_t.contains(&literal);
+        rule_1 || rule_4
     }
 
     /// The place of the children of a node with this label.
@@ -88,10 +106,15 @@ impl<'a> Walk<'a> {
         self.holds(entry, &Place::root(question.tree))
     }
 
-    fn holds(&mut self, entry: Entry, place: &Place) -> Option<bool> {
+    fn visit(&mut self, place: &Place) -> Option<()> {
         self.visits_left = self.visits_left.checked_sub(1)?;
         self.visits += 1;
         self.deepest = self.deepest.max(place.depth + 1);
+        Some(())
+    }
+
+    fn holds(&mut self, entry: Entry, place: &Place) -> Option<bool> {
+        self.visit(place)?;
         if entry.default {
             self.leaf_holds(entry.literal, place)
         } else {
@@ -100,9 +123,7 @@ impl<'a> Walk<'a> {
     }
 
     fn objective_holds(&mut self, literal: usize, place: &Place) -> Option<bool> {
-        let rule_1 = place.local.contains(&literal);
-        let rule_4 = place.tree == Tree::T && place.global_t.contains(&literal);
-        if rule_1 || rule_4 {
+        if place.prunes(literal) {
             return Some(false);
         }
         let program = self.program;
@@ -151,5 +172,40 @@ impl<'a> Walk<'a> {
             default: false,
         };
         self.holds(entry, place)
+    }
+
+    /// Visits every node of every tree, whatever holds.
+    fn count(&mut self, entry: Entry, place: &Place) -> Option<()> {
+        self.visit(place)?;
+        let objective = |literal| Entry {
+            literal,
+            default: false,
+        };
+        if entry.default {
+            let (a, other) = (entry.literal, complement(entry.literal));
+            if place.tree == Tree::T {
+                self.count(objective(a), &place.opened(Tree::TU))?;
+                return self.count(objective(other), &place.opened(Tree::T));
+            }
+            return self.count(objective(a), &place.opened(Tree::T));
+        }
+        if place.prunes(entry.literal) {
+            return Some(());
+        }
+        let program = self.program;
+        let below = place.below(entry.literal);
+        let added = Entry {
+            literal: complement(entry.literal),
+            default: true,
+        };
+        for rule in program.rules.iter().filter(|r| r.head == entry.literal) {
+            for &child in &rule.body {
+                self.count(child, &below)?;
+            }
+            if place.tree == Tree::TU {
+                self.count(added, &below)?;
+            }
+        }
+        Some(())
     }
 }
