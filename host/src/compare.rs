@@ -21,7 +21,7 @@ pub trait Desk {
 }
 
 /// Questions whose trees have more nodes than this aren't asked.
-pub const MOST_VISITS: u64 = 200_000;
+pub const MOST_VISITS: u64 = 20_000;
 
 /// What a buffer holds before it is lent: no byte of a listing.
 const UNTOUCHED: u8 = 0xA5;
