@@ -1,0 +1,3 @@
+-- What the contracts of `lister` cite.
+pub mod Listing
+pub mod Buffer
