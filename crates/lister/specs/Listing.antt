@@ -5,9 +5,14 @@ use Prim.Native.Nat.{ℕ, zero, suc, _+_, _*_, _/_, _%_}
 use lib.Dec.{ltb}
 use lib.ListN.{length, getD}
 use Rattle.wfsx.specs.Sets.{Set, members}
-use Rattle.wfsx.specs.Program.{Rule, Program, withFacts}
+use Rattle.wfsx.specs.Program.{Rule, withFacts}
 use Rattle.wfsx.specs.Model.{M, Verdict, is-true, is-false, is-undefined, verdict}
-use Rattle.litset.specs.Words.{capacity}
+use Rattle.litset.specs.Words.{capacity, setOf}
+use Rattle.litset.specs.declared.LitSet.{LitSet}
+use Rattle.book.specs.declared.Book.{Book}
+use Rattle.book.specs.Book.{namesOf, rulesOf}
+use Rattle.fixpoint.specs.Result.{verdictIn}
+use Rattle.fixpoint.specs.declared.Model.{Model}
 use Rattle.fixpoint.specs.declared.Clash.{Clash}
 use Rattle.fixpoint.specs.declared.Clash.the-variants.{None, Name}
 
@@ -101,6 +106,14 @@ listingOf names rules facts =
     let putIn = members capacity facts in
     let P = withFacts rules putIn in
     listingBy names (length rules) (length putIn) (verdict P) (clashIn (M P))
+
+-- the verdicts that the sets of a model give
+abbrev pub verdictsBy : Model → ℕ → Verdict
+verdictsBy m A = verdictIn (setOf (m .truths .words)) (setOf (m .nonfalse .words)) A
+
+-- the listing by what is held in memory, whatever its bits (`proofs/Lesson.antt`: with the model of the book and the facts it is `listingOf`)
+unfoldable pub listingIn : Book → LitSet → Model → List ℕ
+listingIn b facts m = listingBy (namesOf b) (length (rulesOf b)) (length (members capacity (setOf (facts .words)))) (verdictsBy m) (m .clash)
 
 -- ---- a refusal
 
