@@ -8,8 +8,8 @@ use Rattle.wfsx.specs.Model.{Verdict}
 use Rattle.lister.specs.Listing.{verdictWord, digits, field}
 
 -- Bytes that stand from `at` on end early enough for every place to be a number of the machine; no listing is longer.
-abbrev pub Room : List ℕ → ℕ → Type 0
-Room bytes at = at + length bytes ≤ 65536
+pub record Room (bytes : List ℕ) (at : ℕ) : Type 0 where
+  pub fits : at + length bytes ≤ 65536
 
 -- The bytes are stored from `at` on, those past the buffer's end left out, and `next` is the place behind them.
 pub record Put (bytes : List ℕ) (at : ℕ) (before after : List ℕ) (next : ℕ) : Type 0 where
