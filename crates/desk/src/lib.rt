@@ -1,8 +1,9 @@
 // The lesson desk: a loaded book and the facts put in, by value, and the calls on them. Each call takes any lesson and any argument, and a refused
 // call returns the lesson that it was given.
 ghost use mathlib.Core.Path.{_≡_};
+ghost use Rattle.wfsx.specs.Sets.{∅};
 ghost use Rattle.desk.specs.Listed.{acknowledged, inOrder, gives};
-ghost use Rattle.desk.specs.Calls.{meaningOf, stateSays, Fresh, Loads, PutsIn, TakesOut, GivesVerdict, Answers, GivesModel};
+ghost use Rattle.desk.specs.Calls.{meaningOf, stateSays, LessonIs, Fresh, Loads, PutsIn, TakesOut, GivesVerdict, Answers, GivesModel};
 ghost use Rattle.search.specs.Questions.{treeOf, questionOf};
 use book::Book;
 use fixpoint::Clash;
@@ -79,6 +80,17 @@ pub fn fresh() -> Lesson
     }
 }
 
+// The lesson with another book: no facts are put in.
+fn with_book(l: Lesson, book: Book) -> Lesson
+    ensures { λ r. ⌜ LessonIs 1 book ∅ r ⌝ }
+{
+    let mut m = l;
+    m.loaded = 1;
+    m.book = book;
+    m.facts = litset::empty();
+    m
+}
+
 // A file becomes the lesson's book and empties the facts, or is refused under its number and line.
 pub fn load(l: Lesson, file: &[u8]) -> LoadReply
     ensures { λ r. ⌜ Loads l (now (file .entry)) r ⌝ }
@@ -90,11 +102,7 @@ pub fn load(l: Lesson, file: &[u8]) -> LoadReply
             let book = read.book;
             return LoadReply {
                 answer: Answer::Accepted,
-                lesson: Lesson {
-                    loaded: 1,
-                    book,
-                    facts: litset::empty(),
-                },
+                lesson: with_book(l, book),
             };
         }
         Answer::Refused { number, line } => {
@@ -157,18 +165,18 @@ pub fn take_out(l: Lesson, literal: usize) -> FactReply
             lesson: l,
         };
     }
-    if !litset::contains(l.facts, literal) {
+    if litset::contains(l.facts, literal) {
+        let facts = litset::remove(l.facts, literal);
+        let mut m = l;
+        m.facts = facts;
         return FactReply {
-            answer: FactAnswer::Refused(23),
-            lesson: l,
+            answer: FactAnswer::Done,
+            lesson: m,
         };
     }
-    let facts = litset::remove(l.facts, literal);
-    let mut m = l;
-    m.facts = facts;
     FactReply {
-        answer: FactAnswer::Done,
-        lesson: m,
+        answer: FactAnswer::Refused(23),
+        lesson: l,
     }
 }
 
