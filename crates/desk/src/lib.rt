@@ -3,13 +3,14 @@
 ghost use mathlib.Core.Path.{_≡_};
 ghost use Rattle.wfsx.specs.Sets.{∅};
 ghost use Rattle.desk.specs.Listed.{acknowledged, inOrder, gives};
-ghost use Rattle.desk.specs.Calls.{meaningOf, stateSays, LessonIs, Fresh, Loads, PutsIn, TakesOut, GivesVerdict, Answers, GivesModel};
+ghost use Rattle.desk.specs.Calls.{meaningOf, stateSays, LessonIs, Fresh, Loads, PutsIn, TakesOut, GivesVerdict, Answers, GivesModel, Lists};
 ghost use Rattle.search.specs.Questions.{treeOf, questionOf};
 use book::Book;
 use fixpoint::Clash;
 use fixpoint::Verdict;
 use litset::LitSet;
 use reader::Answer;
+use lister::Written;
 use search::Tree;
 
 // A lesson: whether a book is loaded (0 says none), the book, and the facts put in.
@@ -66,6 +67,16 @@ pub struct ModelReply {
     pub answer: ModelAnswer,
     pub truths: LitSet,
     pub nonfalse: LitSet,
+    pub lesson: Lesson,
+}
+
+pub enum ListAnswer {
+    Length(usize),
+    Refused(u8),
+}
+
+pub struct ListReply {
+    pub answer: ListAnswer,
     pub lesson: Lesson,
 }
 
@@ -258,6 +269,33 @@ pub fn model(l: Lesson) -> ModelReply
                 answer: ModelAnswer::Consistent,
                 truths,
                 nonfalse,
+                lesson: l,
+            };
+        }
+    }
+}
+
+// The listing, into a lent buffer.
+pub fn listing(l: Lesson, buffer: &mut [u8]) -> ListReply
+    ensures { λ r. ⌜ Lists l (now (buffer .entry)) r (now (buffer .exit)) ⌝ }
+{
+    if l.loaded == 0 {
+        return ListReply {
+            answer: ListAnswer::Refused(20),
+            lesson: l,
+        };
+    }
+    let model = fixpoint::model_of(l.book, l.facts);
+    match lister::write(l.book, l.facts, model, buffer) {
+        Written::Length(n) => {
+            return ListReply {
+                answer: ListAnswer::Length(n),
+                lesson: l,
+            };
+        }
+        Written::Short => {
+            return ListReply {
+                answer: ListAnswer::Refused(25),
                 lesson: l,
             };
         }
