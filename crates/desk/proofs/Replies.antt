@@ -24,7 +24,7 @@ use Rattle.fixpoint.specs.declared.Clash.the-variants as clash
 use Rattle.fixpoint.specs.declared.Model.{Model}
 use Rattle.fixpoint.proofs.Published.{book-no-clash, book-clash-name, verdict-same}
 use Rattle.desk.specs.Listed.{acknowledged, programIn, gives, refused, inOrder, putInSays, takeOutSays, searchSays, ifLoaded, setGiven}
-use Rattle.desk.specs.Calls.{meaningOf, stateSays, LoadsAs, PutsIn, TakesOut, GivesVerdict, Answers, GivesModel}
+use Rattle.desk.specs.Calls.{LessonIs, meaningOf, stateSays, LoadsAs, PutsIn, TakesOut, GivesVerdict, Answers, GivesModel}
 use Rattle.desk.specs.declared.Lesson.{Lesson}
 use Rattle.desk.specs.declared.FactAnswer.the-variants as fact
 use Rattle.desk.specs.declared.VerdictAnswer.the-variants as verdict
@@ -51,12 +51,12 @@ pub refused-accepted : (k line : ℕ) → _≡_ {A = Answer} (Refused k line) Ac
 refused-accepted k line e = true≢false (sym (ap isAccepted e))
 
 module _ (l : Lesson) (q : Loaded) where
-  pub load-accepted : (o : Outcome) → q ≡ loadedOf o → q .answer ≡ Accepted → (facts : LitSet) → setOf (facts .words) ≡ ∅
-      → LoadsAs l o (record { answer = Accepted; lesson = record { loaded = 1; book = q .book; facts = facts } })
+  pub load-accepted : (o : Outcome) → q ≡ loadedOf o → q .answer ≡ Accepted → (m : Lesson) → LessonIs 1 (q .book) ∅ m
+      → LoadsAs l o (record { answer = Accepted; lesson = m })
   unfolding loadedOf
-  load-accepted (accepted names rules) e a facts none =
-      (refl, record { loaded-is = refl; book-is = ap (λ (x : Loaded). x .book) e; facts-are = none })
-  load-accepted (reader.refused k line) e a facts none = absurd (refused-accepted k line (sym (ap (λ (x : Loaded). x .answer) e) ∙ a))
+  load-accepted (accepted names rules) e a m h =
+      (refl, record { loaded-is = h .loaded-is; book-is = h .book-is ∙ ap (λ (x : Loaded). x .book) e; facts-are = h .facts-are })
+  load-accepted (reader.refused k line) e a m h = absurd (refused-accepted k line (sym (ap (λ (x : Loaded). x .answer) e) ∙ a))
 
   pub load-refused : (o : Outcome) → q ≡ loadedOf o → (k line : ℕ) → q .answer ≡ Refused k line → LoadsAs l o (record { answer = Refused k line; lesson = l })
   unfolding loadedOf
