@@ -8,9 +8,9 @@ ghost use Rattle.search.specs.Questions.{treeOf, questionOf};
 use book::Book;
 use fixpoint::Clash;
 use fixpoint::Verdict;
+use lister::Written;
 use litset::LitSet;
 use reader::Answer;
-use lister::Written;
 use search::Tree;
 
 // A lesson: whether a book is loaded (0 says none), the book, and the facts put in.
