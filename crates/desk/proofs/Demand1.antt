@@ -4,10 +4,11 @@ use mathlib.Core.Path.{_≡_, refl, sym, _∙_, ap}
 use mathlib.Core.Bool.{Bool, true, false, cond, true≢false}
 use mathlib.Core.List.{List, [], _∷_}
 use mathlib.Core.Logic.{_↔_, _⊎_, inl, inr}
-use Prim.Native.Nat.{ℕ, _*_}
+use Prim.Native.Nat.{ℕ, _*_, _<_}
+use lib.Dec.{leb}
 use native.Mathlib.Omega.{arith}
 use lib.ListN.{length}
-use borrow.Author.Tests.{ltb-true, ltb-false}
+use borrow.Author.Tests.{leb-true, leb-false, ltb-true, ltb-false}
 use Rattle.wfsx.specs.Sets.{Set, _∈_, _∉_}
 use Rattle.wfsx.specs.Program.{Rule}
 use Rattle.wfsx.specs.Model as wfsx
@@ -18,9 +19,9 @@ use Rattle.reader.specs.Conditions.{Row, First}
 use Rattle.reader.specs.declared.Answer.{Answer}
 use Rattle.reader.specs.declared.Answer.the-variants.{Refused}
 use Rattle.reader.proofs.Conditions.{refused-exactly}
-use Rattle.desk.specs.Listed.{Listed, Shelf, empty, holding, namesOn, noneLoaded, inBook, programIn, Said, gives, refused, inOrder, ifLoaded, putInSays, takeOutSays, searchSays, ContradictoryOver, VerdictSays, ModelSays, acknowledged}
+use Rattle.desk.specs.Listed.{listingIn, listingSays, bufferAfter, Listed, Shelf, empty, holding, namesOn, noneLoaded, inBook, programIn, Said, gives, refused, inOrder, ifLoaded, putInSays, takeOutSays, searchSays, ContradictoryOver, VerdictSays, ModelSays, acknowledged}
 use Rattle.desk.specs.Calls.{meaningOf, Fresh, LoadsAs, room, factSays, FactsAfter}
-use Rattle.desk.specs.Runs.{Call, load, put-in, take-out, verdict, ask, model, left, ReplyTo, Meets, lessonIn, Run, NoBook, NotBelow, stateRows, TurnsDown, RefusedBy}
+use Rattle.desk.specs.Runs.{AsItWas, Call, load, put-in, take-out, verdict, ask, model, listing, left, ReplyTo, Meets, Run, NoBook, NotBelow, stateRows, TurnsDown, RefusedBy}
 use Rattle.desk.specs.declared.Lesson.{Lesson}
 use Rattle.desk.specs.declared.LoadReply.{LoadReply}
 use Rattle.desk.specs.declared.FactAnswer.{FactAnswer}
@@ -115,6 +116,19 @@ model-by d s said h = go (contradictory-or (programIn d) (heads-in-room d s))
     go (inl c) = by true (h .contradictory c)
     go (inr n) = by false (h .consistent n)
 
+listing-by : (d : Listed) (buffer : List ℕ) → By (listingSays d buffer) (stateRows d (listing buffer))
+unfolding listingSays ifLoaded
+listing-by d buffer =
+    loaded-by d ((25, length buffer < length (listingIn d)) ∷ []) (listingSays d buffer) (λ n. rw n refl)
+    (λ n. rw n (go (leb (length (listingIn d)) (length buffer)) refl))
+  where
+    go : (t : Bool) → leb (length (listingIn d)) (length buffer) ≡ t
+        → By (cond t (gives (length (listingIn d))) (refused 25)) ((25, length buffer < length (listingIn d)) ∷ [])
+    go true e =
+        let fits = leb-true (length (listingIn d)) (length buffer) e in
+        unmet 25 (length buffer < length (listingIn d)) [] _ (λ h. omega arith) (given-by (length (listingIn d)) _ refl)
+    go false e = met 25 (length buffer < length (listingIn d)) [] _ (leb-false (length (listingIn d)) (length buffer) e) refl
+
 abbrev isAccepted : Outcome → Bool
 isAccepted (accepted names rules) = true
 isAccepted (reader.refused k line) = false
@@ -142,13 +156,16 @@ load-kept : (l : Lesson) (r : LoadReply) (o : Outcome) → LoadsAs l o r → (k 
 load-kept l r (accepted names rules) h k line e = absurd (refused-accepted k line (sym e ∙ h .0))
 load-kept l r (reader.refused j at) h k line e = h .1
 
-kept : (l : Lesson) (c : Call) (r : ReplyTo c) → Meets l c r → (k line : ℕ) → RefusedBy c r k line → lessonIn c r ≡ l
+kept : (l : Lesson) (c : Call) (r : ReplyTo c) → Meets l c r → (k line : ℕ) → RefusedBy c r k line → AsItWas l c r
+unfolding bufferAfter
 kept l (load file) r h k line e = load-kept l r (readFile file) h k line e
 kept l (put-in A) r h k line e = facts-kept l _ (r .answer) (r .lesson) (h .leaves) k e
 kept l (take-out A) r h k line e = facts-kept l _ (r .answer) (r .lesson) (h .leaves) k e
 kept l (verdict A) r h k line e = h .leaves
 kept l (ask A default t) r h k line e = h .leaves
 kept l model r h k line e = h .leaves
+kept l (listing buffer) r h k line e =
+    (h .leaves, h .buffer ∙ ap (bufferAfter (meaningOf l) buffer) e)
 
 exactly : (d : Listed) → Sound d → (l : Lesson) → meaningOf l ≡ d → (c : Call) (r : ReplyTo c) → Meets l c r → (k line : ℕ) → RefusedBy c r k line ↔ TurnsDown d c k line
 unfolding searchSays
@@ -161,9 +178,10 @@ exactly d s l e (take-out A) r h k line = rw (h .says, e) (take-out-by d A k)
 exactly d s l e (verdict A) r h k line = verdict-by d s A _ (rw e at (h .says)) k
 exactly d s l e (ask A default t) r h k line = order-by d A [] (gives _) _ (rw e at (h .says)) (given-by _ _ refl) k
 exactly d s l e model r h k line = model-by d s _ (rw e at (h .says)) k
+exactly d s l e (listing buffer) r h k line = rw (h .says, e) (listing-by d buffer k)
 
 -- each refusal in a run: `c` is called on the lesson that the list `cs` left
 pub demand1 : (cs : List Call) (start l : Lesson) → Fresh start → Run start cs l → (c : Call) (r : ReplyTo c) → Meets l c r → (k line : ℕ)
-    → (RefusedBy c r k line ↔ TurnsDown (left cs) c k line) × (RefusedBy c r k line → lessonIn c r ≡ l)
+    → (RefusedBy c r k line ↔ TurnsDown (left cs) c k line) × (RefusedBy c r k line → AsItWas l c r)
 demand1 cs start l f run c r h k line =
     (exactly (left cs) (left-sound cs) l (left-means cs start l f run) c r h k line, kept l c r h k line)

@@ -27,10 +27,12 @@ use Rattle.reader.specs.File.{Outcome, accepted, readFile}
 use Rattle.reader.specs.File as reader
 use Rattle.reader.specs.declared.Answer.the-variants.{Accepted, Refused}
 use Rattle.fixpoint.specs.declared.Verdict.the-variants.{True, False, Undefined}
-use Rattle.desk.specs.Listed.{Listed, noneLoaded, programIn, Said, gives, refused, inOrder, ifLoaded, setGiven, putInSays, takeOutSays, searchSays, ContradictoryOver, ModelSays, Ack, acknowledged}
-use Rattle.desk.specs.Calls.{meaningOf, Fresh, LoadsAs, room, PutsIn, TakesOut, verdictSays, askSays, modelSays}
-use Rattle.desk.specs.Runs.{Call, load, put-in, take-out, verdict, ask, model, ReplyTo, Meets, lessonIn, Run}
+use Rattle.desk.specs.Listed.{listingSays, bufferAfter, Listed, noneLoaded, programIn, Said, gives, refused, inOrder, ifLoaded, setGiven, putInSays, takeOutSays, searchSays, ContradictoryOver, ModelSays, Ack, acknowledged}
+use Rattle.desk.specs.Calls.{listSays, meaningOf, Fresh, LoadsAs, room, PutsIn, TakesOut, verdictSays, askSays, modelSays}
+use Rattle.desk.specs.Runs.{Call, load, put-in, take-out, verdict, ask, model, listing, ReplyTo, Meets, lessonIn, Run}
 use Rattle.desk.specs.declared.Lesson.{Lesson}
+use Rattle.desk.specs.declared.ListAnswer.{ListAnswer}
+use Rattle.desk.specs.declared.ListAnswer.the-variants as lists
 use Rattle.desk.specs.declared.LoadReply.{LoadReply}
 use Rattle.desk.specs.declared.FactAnswer.the-variants as fact
 use Rattle.desk.specs.declared.FactReply.{FactReply}
@@ -108,6 +110,10 @@ model-for : (said : Said Bool) → (a : ModelAnswer) × (modelSays a ≡ said)
 model-for (gives true) = (modelled.Contradictory, refl)
 model-for (gives false) = (modelled.Consistent, refl)
 model-for (refused n) = (modelled.Refused n, refl)
+
+length-for : (said : Said ℕ) → (a : ListAnswer) × (listSays a ≡ said)
+length-for (gives n) = (lists.Length n, refl)
+length-for (refused n) = (lists.Refused n, refl)
 
 record Ready (l : Lesson) : Type 0 where
   pub sized : length (l .facts .words) ≡ nWords
@@ -206,6 +212,12 @@ module _ (l : Lesson) (ready : Ready l) where
   total (ask A default k) =
       let w = answer-for (searchSays d A k (questionOf A default)) in
       (record { answer = w .0; lesson = l }, record { says = w .1; leaves = refl }, ready .sized)
+  total (listing buffer) =
+      let w = length-for (listingSays d buffer) in (
+        (record { answer = w .0; lesson = l }, bufferAfter d buffer (listSays (w .0))),
+        record { says = w .1; buffer = refl; leaves = refl },
+        ready .sized,
+      )
   total model = total-model (contradictory-or (programIn d) (heads-in-room d (ready .sound)))
 
 -- ---- runs

@@ -17,7 +17,7 @@ use Rattle.scan.proofs.Bytes.{name-fits}
 use Rattle.desk.specs.Listed.{Listed, holding, putInSays, takeOutSays, Said, Ack}
 use Rattle.desk.specs.Listed as listed
 use Rattle.desk.specs.Calls.{shelfOf, meaningOf, LessonIs, Fresh, LoadsAs, factSays, FactsAfter}
-use Rattle.desk.specs.Runs.{Call, load, put-in, take-out, verdict, ask, model, nothing, reads, withSet, unlessRefused, after, afterAll, left, ReplyTo, Meets, lessonIn, Run}
+use Rattle.desk.specs.Runs.{Call, load, put-in, take-out, verdict, ask, model, listing, nothing, reads, withSet, unlessRefused, after, afterAll, left, ReplyTo, Meets, lessonIn, Run}
 use Rattle.desk.specs.declared.Lesson.{Lesson}
 use Rattle.desk.specs.declared.LoadReply.{LoadReply}
 use Rattle.desk.specs.declared.FactAnswer.{FactAnswer}
@@ -72,6 +72,7 @@ call-means l (take-out A) r h = facts-mean l _ (takeOutSays (meaningOf l) A) (r 
 call-means l (verdict A) r h = ap meaningOf (h .leaves)
 call-means l (ask A default k) r h = ap meaningOf (h .leaves)
 call-means l model r h = ap meaningOf (h .leaves)
+call-means l (listing buffer) r h = ap meaningOf (h .leaves)
 
 run-means : (cs : List Call) (l m : Lesson) → Run l cs m → meaningOf m ≡ afterAll (meaningOf l) cs
 run-means [] l m h = ap meaningOf (sym h)

@@ -1,6 +1,9 @@
 -- What a reply is once the tests of a call have picked an arm, over plain values: the calls' proofs cite these.
 use mathlib.Core.Path.{_≡_, refl, sym, _∙_, ap}
 use mathlib.Core.Bool.{Bool, true, false, cond, true≢false}
+use mathlib.Core.List.{List, _++_}
+use lib.Dec.{leb}
+use lib.ListN.{length, drop}
 use Prim.Native.Nat.{ℕ}
 use Rattle.wfsx.specs.Sets.{∅}
 use Rattle.wfsx.specs.Program.{Entry, Program}
@@ -11,27 +14,34 @@ use Rattle.wfsx.specs.Trees.{answer}
 use Rattle.litset.specs.Words.{setOf, with, without}
 use Rattle.litset.specs.declared.LitSet.{LitSet}
 use Rattle.litset.proofs.Words.{with-room}
-use Rattle.book.specs.Book.{programOf}
+use Rattle.book.specs.Book.{namesOf, rulesOf, programOf}
 use Rattle.reader.specs.File.{Outcome, accepted}
 use Rattle.reader.specs.File as reader
 use Rattle.reader.specs.Loading.{loadedOf}
 use Rattle.reader.specs.declared.Answer.{Answer}
 use Rattle.reader.specs.declared.Answer.the-variants.{Accepted, Refused}
 use Rattle.reader.specs.declared.Loaded.{Loaded}
+use Rattle.lister.specs.Listing.{listingOf}
+use Rattle.lister.specs.Listing as lister
+use Rattle.lister.specs.Buffer.{writtenOf, bufferOf, Writes}
+use Rattle.lister.specs.declared.Written.{Written}
+use Rattle.lister.specs.declared.Written.the-variants.{Length, Short}
+use Rattle.lister.proofs.Lesson.{lesson-listing}
+use Rattle.desk.specs.declared.ListAnswer.the-variants as lists
 use Rattle.fixpoint.specs.Result.{ModelOf, verdictIs, verdictIn}
 use Rattle.fixpoint.specs.declared.Verdict.{Verdict}
 use Rattle.fixpoint.specs.declared.Clash.the-variants as clash
 use Rattle.fixpoint.specs.declared.Model.{Model}
 use Rattle.fixpoint.proofs.Published.{book-no-clash, book-clash-name, verdict-same}
-use Rattle.desk.specs.Listed.{acknowledged, programIn, gives, refused, inOrder, putInSays, takeOutSays, searchSays, ifLoaded, setGiven}
-use Rattle.desk.specs.Calls.{meaningOf, stateSays, LoadsAs, PutsIn, TakesOut, GivesVerdict, Answers, GivesModel}
+use Rattle.desk.specs.Listed.{Said, acknowledged, programIn, gives, refused, inOrder, putInSays, takeOutSays, searchSays, ifLoaded, setGiven, Shelf, namesOn, rulesOn, listingIn, listingSays, bufferAfter}
+use Rattle.desk.specs.Calls.{LessonIs, meaningOf, stateSays, LoadsAs, PutsIn, TakesOut, GivesVerdict, Answers, GivesModel, Lists}
 use Rattle.desk.specs.declared.Lesson.{Lesson}
 use Rattle.desk.specs.declared.FactAnswer.the-variants as fact
 use Rattle.desk.specs.declared.VerdictAnswer.the-variants as verdict
 use Rattle.desk.specs.declared.AskAnswer.the-variants as ask
 use Rattle.desk.specs.declared.ModelAnswer.the-variants as model
 use Rattle.desk.proofs.Order.{turned-down, state-passed, passed}
-use Rattle.desk.proofs.Meaning.{none-loaded-is, loaded-is, inside-room, program-is}
+use Rattle.desk.proofs.Meaning.{shelf-holding, none-loaded-is, loaded-is, inside-room, program-is}
 
 -- ---- load
 
@@ -51,12 +61,12 @@ pub refused-accepted : (k line : ℕ) → _≡_ {A = Answer} (Refused k line) Ac
 refused-accepted k line e = true≢false (sym (ap isAccepted e))
 
 module _ (l : Lesson) (q : Loaded) where
-  pub load-accepted : (o : Outcome) → q ≡ loadedOf o → q .answer ≡ Accepted → (facts : LitSet) → setOf (facts .words) ≡ ∅
-      → LoadsAs l o (record { answer = Accepted; lesson = record { loaded = 1; book = q .book; facts = facts } })
+  pub load-accepted : (o : Outcome) → q ≡ loadedOf o → q .answer ≡ Accepted → (m : Lesson) → LessonIs 1 (q .book) ∅ m
+      → LoadsAs l o (record { answer = Accepted; lesson = m })
   unfolding loadedOf
-  load-accepted (accepted names rules) e a facts none =
-      (refl, record { loaded-is = refl; book-is = ap (λ (x : Loaded). x .book) e; facts-are = none })
-  load-accepted (reader.refused k line) e a facts none = absurd (refused-accepted k line (sym (ap (λ (x : Loaded). x .answer) e) ∙ a))
+  load-accepted (accepted names rules) e a m h =
+      (refl, record { loaded-is = h .loaded-is; book-is = h .book-is ∙ ap (λ (x : Loaded). x .book) e; facts-are = h .facts-are })
+  load-accepted (reader.refused k line) e a m h = absurd (refused-accepted k line (sym (ap (λ (x : Loaded). x .answer) e) ∙ a))
 
   pub load-refused : (o : Outcome) → q ≡ loadedOf o → (k line : ℕ) → q .answer ≡ Refused k line → LoadsAs l o (record { answer = Refused k line; lesson = l })
   unfolding loadedOf
@@ -210,3 +220,71 @@ module _ (l : Lesson) where
           nonfalse = rw some (is .nonfalse ∙ ap N its-program);
           leaves = refl;
         }
+
+-- ---- listing
+
+abbrev lengthIn : Written → ℕ
+lengthIn (Length n) = n
+lengthIn Short = 0
+
+abbrev isLength : Written → Bool
+isLength (Length n) = true
+isLength Short = false
+
+length-same : (m n : ℕ) → _≡_ {A = Written} (Length m) (Length n) → m ≡ n
+length-same m n e = ap lengthIn e
+
+short-length : (n : ℕ) → _≡_ {A = Written} Short (Length n) → ⊥
+short-length n e = true≢false (sym (ap isLength e))
+
+-- the listing of a lesson with a book
+lesson-bytes : (l : Lesson) → (l .loaded ≡ 0 → ⊥) → listingOf (namesOf (l .book)) (rulesOf (l .book)) (setOf (l .facts .words)) ≡ listingIn (meaningOf l)
+unfolding listingIn meaningOf
+lesson-bytes l e = ap (λ (b : Shelf). listingOf (namesOn b) (rulesOn b) (setOf (l .facts .words))) (sym (shelf-holding l e))
+
+module _ (B before after : List ℕ) (w : Written) (h : Writes B before w after) where
+  abbrev fitting : Said ℕ
+  fitting = cond (leb (length B) (length before)) (gives (length B)) (refused 25)
+
+  written-length : (n : ℕ) → w ≡ Length n → (fitting ≡ gives n) × (after ≡ B ++ drop n before)
+  unfolding writtenOf bufferOf
+  written-length n e = go (leb (length B) (length before)) (sym (h .answer) ∙ e) (h .buffer)
+    where
+      go : (t : Bool) → cond t (Length (length B)) Short ≡ Length n → after ≡ cond t (B ++ drop (length B) before) before
+          → (cond t (gives (length B)) (refused 25) ≡ gives n) × (after ≡ B ++ drop n before)
+      go true q b = let same = length-same (length B) n q in (ap gives same, b ∙ ap (λ (k : ℕ). B ++ drop k before) same)
+      go false q b = absurd (short-length n q)
+
+  written-short : w ≡ Short → (fitting ≡ refused 25) × (after ≡ before)
+  unfolding writtenOf bufferOf
+  written-short e = go (leb (length B) (length before)) (sym (h .answer) ∙ e) (h .buffer)
+    where
+      go : (t : Bool) → cond t (Length (length B)) Short ≡ Short → after ≡ cond t (B ++ drop (length B) before) before
+          → (cond t (gives (length B)) (refused 25) ≡ refused 25) × (after ≡ before)
+      go true q b = absurd (short-length (length B) (sym q))
+      go false q b = (refl, b)
+
+module _ (l : Lesson) (before : List ℕ) where
+  pub listing-20 : l .loaded ≡ 0 → Lists l before (record { answer = lists.Refused 20; lesson = l }) before
+  unfolding listingSays ifLoaded bufferAfter
+  listing-20 e = let none = none-loaded-is l e in record { says = rw none refl; buffer = refl; leaves = refl }
+
+  module _ (e : l .loaded ≡ 0 → ⊥) (m : Model) (is : ModelOf (programOf (l .book) (setOf (l .facts .words))) m) (after : List ℕ) (w : Written)
+      (h : Writes (lister.listingIn (l .book) (l .facts) m) before w after) where
+    writes : Writes (listingIn (meaningOf l)) before w after
+    unfolding listingIn
+    writes = rw (lesson-listing (l .book) (l .facts) m is ∙ lesson-bytes l e) at h
+
+    pub listing-length : (n : ℕ) → w ≡ Length n → Lists l before (record { answer = lists.Length n; lesson = l }) after
+    unfolding listingSays ifLoaded bufferAfter
+    listing-length n q =
+        let some = loaded-is l e in
+        let p = written-length (listingIn (meaningOf l)) before after w writes n q in
+        record { says = rw some (sym (p .0)); buffer = p .1; leaves = refl }
+
+    pub listing-25 : w ≡ Short → Lists l before (record { answer = lists.Refused 25; lesson = l }) after
+    unfolding listingSays ifLoaded bufferAfter
+    listing-25 q =
+        let some = loaded-is l e in
+        let p = written-short (listingIn (meaningOf l)) before after w writes q in
+        record { says = rw some (sym (p .0)); buffer = p .1; leaves = refl }

@@ -24,7 +24,7 @@ use Rattle.reader.specs.File as reader
 use Rattle.reader.proofs.Within.{accepted-within}
 use Rattle.desk.specs.Listed.{Listed, namesOn, rulesOn, programIn, noneLoaded, inBook, Said, gives, refused, Ack, inOrder, putInSays, takeOutSays, ContradictoryOver}
 use Rattle.desk.specs.Calls.{room}
-use Rattle.desk.specs.Runs.{Call, load, put-in, take-out, verdict, ask, model, nothing, reads, withSet, unlessRefused, after, afterAll, left}
+use Rattle.desk.specs.Runs.{Call, load, put-in, take-out, verdict, ask, model, listing, nothing, reads, withSet, unlessRefused, after, afterAll, left}
 use Rattle.desk.proofs.Order.{given-refused}
 
 pub record Sound (d : Listed) : Type 0 where
@@ -83,6 +83,7 @@ sound-after d (take-out A) s = sound-drop d A s (takeOutSays d A)
 sound-after d (verdict A) s = s
 sound-after d (ask A default k) s = s
 sound-after d model s = s
+sound-after d (listing buffer) s = s
 
 sound-all : (d : Listed) (cs : List Call) → Sound d → Sound (afterAll d cs)
 sound-all d [] s = s

@@ -16,9 +16,12 @@ use Rattle.wfsx.specs.Model.{M, N}
 use Rattle.wfsx.specs.Trees as trees
 use Rattle.litset.specs.Words.{capacity}
 use Rattle.fixpoint.specs.Result.{verdictIs}
-use Rattle.desk.specs.Listed.{Ack, acknowledged, Shelf, empty, holding, Listed, Said, gives, putInSays, takeOutSays, searchSays, VerdictSays, ModelSays, setGiven}
+use Rattle.desk.specs.Listed.{Ack, acknowledged, Shelf, empty, holding, Listed, Said, gives, putInSays, takeOutSays, searchSays, VerdictSays, ModelSays, setGiven, listingSays, bufferAfter}
 use Rattle.desk.specs.Listed as listed
 use Rattle.desk.specs.declared.Lesson.{Lesson}
+use Rattle.desk.specs.declared.ListReply.{ListReply}
+use Rattle.desk.specs.declared.ListAnswer.{ListAnswer}
+use Rattle.desk.specs.declared.ListAnswer.the-variants as lists
 use Rattle.desk.specs.declared.LoadReply.{LoadReply}
 use Rattle.desk.specs.declared.FactReply.{FactReply}
 use Rattle.desk.specs.declared.FactAnswer.{FactAnswer}
@@ -117,4 +120,16 @@ pub record GivesModel (l : Lesson) (r : ModelReply) : Type 0 where
   pub says : ModelSays room (meaningOf l) (modelSays (r .answer))
   pub truths : setOf (r .truths .words) ≡ setGiven (meaningOf l) M
   pub nonfalse : setOf (r .nonfalse .words) ≡ setGiven (meaningOf l) N
+  pub leaves : r .lesson ≡ l
+
+-- ---- listing
+
+abbrev pub listSays : ListAnswer → Said ℕ
+listSays (lists.Length n) = gives n
+listSays (lists.Refused number) = listed.refused number
+
+-- `before` and `after` are the bytes of the lent buffer
+pub record Lists (l : Lesson) (before : List ℕ) (r : ListReply) (after : List ℕ) : Type 0 where
+  pub says : listSays (r .answer) ≡ listingSays (meaningOf l) before
+  pub buffer : after ≡ bufferAfter (meaningOf l) before (listSays (r .answer))
   pub leaves : r .lesson ≡ l

@@ -2,15 +2,16 @@
 -- rules to a model", "From a question to its trees").
 use mathlib.Core.Path.{_≡_}
 use mathlib.Core.Bool.{Bool, true, false, cond}
-use mathlib.Core.List.{List, []}
+use mathlib.Core.List.{List, [], _++_}
 use Prim.Native.Nat.{ℕ, _*_}
-use lib.Dec.{ltb}
-use lib.ListN.{length}
+use lib.Dec.{leb, ltb}
+use lib.ListN.{length, drop}
 use Rattle.wfsx.specs.Sets.{Set, ∅, members}
 use Rattle.wfsx.specs.Program.{Entry, Rule, Program, withFacts}
 use Rattle.wfsx.specs.Model.{Contradictory, verdict}
 use Rattle.wfsx.specs.Model as wfsx
 use Rattle.wfsx.specs.Trees.{Tree, answer}
+use Rattle.lister.specs.Listing.{listingOf}
 use Rattle.litset.specs.Words.{capacity}
 
 -- no book, or the names and rules of one
@@ -44,6 +45,10 @@ noneLoaded (holding names rules) = false
 -- a literal number below twice the count of names
 unfoldable pub inBook : Shelf → Set
 inBook b A = ltb A (2 * length (namesOn b))
+
+-- the listing of what is loaded and put in
+unfoldable pub listingIn : Listed → List ℕ
+listingIn d = listingOf (namesOn (d .book)) (rulesOn (d .book)) (d .facts)
 
 -- ---- answers
 
@@ -93,3 +98,14 @@ pub record ModelSays (base : Set) (d : Listed) (said : Said Bool) : Type 0 where
 -- a set of the model, where there is a book
 unfoldable pub setGiven : Listed → (Program → Set) → Set
 setGiven d S = cond (noneLoaded (d .book)) ∅ (S (programIn d))
+
+-- The listing call answers the listing's length. 25: the lent buffer is shorter than the listing
+unfoldable pub listingSays : Listed → List ℕ → Said ℕ
+listingSays d buffer =
+    let bytes = listingIn d in
+    ifLoaded d (cond (leb (length bytes) (length buffer)) (gives (length bytes)) (refused 25))
+
+-- the lent buffer afterwards: the bytes after the listing stay, and a refused call changes none
+unfoldable pub bufferAfter : Listed → List ℕ → Said ℕ → List ℕ
+bufferAfter d buffer (gives n) = listingIn d ++ drop n buffer
+bufferAfter d buffer (refused number) = buffer

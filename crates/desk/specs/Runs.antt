@@ -3,7 +3,7 @@ use mathlib.Core.Path.{_≡_}
 use mathlib.Core.Logic.{_↔_}
 use mathlib.Core.Bool.{Bool, true, false}
 use mathlib.Core.List.{List, [], _∷_}
-use Prim.Native.Nat.{ℕ, _*_, _≤_}
+use Prim.Native.Nat.{ℕ, _*_, _≤_, _<_}
 use lib.ListN.{length}
 use Rattle.wfsx.specs.Sets.{Set, _∈_, _∉_, _⊆_, ∅, _∖_, add}
 use Rattle.wfsx.specs.Program.{Program}
@@ -16,21 +16,23 @@ use Rattle.reader.specs.File.{Outcome, accepted, readFile}
 use Rattle.reader.specs.File as reader
 use Rattle.reader.specs.Conditions.{Row, First, IsRefused}
 use Rattle.reader.specs.declared.Answer.the-variants as reading
-use Rattle.desk.specs.Listed.{empty, holding, Listed, namesOn, programIn, inBook, ContradictoryOver, Said, gives, refused, putInSays, takeOutSays}
-use Rattle.desk.specs.Calls.{Loads, factSays, PutsIn, TakesOut, verdictSays, GivesVerdict, askSays, Answers, modelSays, GivesModel}
+use Rattle.desk.specs.Listed.{listingIn, empty, holding, Listed, namesOn, programIn, inBook, ContradictoryOver, Said, gives, refused, putInSays, takeOutSays}
+use Rattle.desk.specs.Calls.{Loads, factSays, PutsIn, TakesOut, verdictSays, GivesVerdict, askSays, Answers, modelSays, GivesModel, listSays, Lists}
 use Rattle.desk.specs.declared.Lesson.{Lesson}
 use Rattle.desk.specs.declared.LoadReply.{LoadReply}
 use Rattle.desk.specs.declared.FactReply.{FactReply}
 use Rattle.desk.specs.declared.VerdictReply.{VerdictReply}
 use Rattle.desk.specs.declared.AskReply.{AskReply}
 use Rattle.desk.specs.declared.ModelReply.{ModelReply}
+use Rattle.desk.specs.declared.ListReply.{ListReply}
 
--- A call with its arguments. A load has the bytes of its file; a search has a literal number, whether `~` stands before it, and T or TU.
+-- A call with its arguments. A load has the bytes of its file, a listing those of the lent buffer; a search has a literal number, whether `~` stands before it, and T or TU.
 pub data Call : Type 0 where
   load : List ℕ → Call
   put-in take-out verdict : ℕ → Call
   ask : ℕ → Bool → Tree → Call
   model : Call
+  listing : List ℕ → Call
 
 -- ---- what a list leaves
 
@@ -59,6 +61,7 @@ after d (take-out A) = unlessRefused (takeOutSays d A) (withSet d (without A (d 
 after d (verdict A) = d
 after d (ask A default k) = d
 after d model = d
+after d (listing buffer) = d
 
 abbrev pub afterAll : Listed → List Call → Listed
 afterAll d [] = d
@@ -70,6 +73,7 @@ left cs = afterAll nothing cs
 
 -- ---- what a run is
 
+-- a listing leaves a buffer beside its reply
 abbrev pub ReplyTo : Call → Type 0
 ReplyTo (load file) = LoadReply
 ReplyTo (put-in A) = FactReply
@@ -77,6 +81,7 @@ ReplyTo (take-out A) = FactReply
 ReplyTo (verdict A) = VerdictReply
 ReplyTo (ask A default k) = AskReply
 ReplyTo model = ModelReply
+ReplyTo (listing buffer) = ListReply × List ℕ
 
 -- what the `ensures` of the call says of its reply
 abbrev pub Meets : Lesson → (c : Call) → ReplyTo c → Type 0
@@ -86,6 +91,7 @@ Meets l (take-out A) r = TakesOut l A r
 Meets l (verdict A) r = GivesVerdict l A r
 Meets l (ask A default k) r = Answers l A k (questionOf A default) r
 Meets l model r = GivesModel l r
+Meets l (listing buffer) r = Lists l buffer (r .0) (r .1)
 
 -- the lesson that the call returns
 abbrev pub lessonIn : (c : Call) → ReplyTo c → Lesson
@@ -95,6 +101,7 @@ lessonIn (take-out A) r = r .lesson
 lessonIn (verdict A) r = r .lesson
 lessonIn (ask A default k) r = r .lesson
 lessonIn model r = r .lesson
+lessonIn (listing buffer) r = r .0 .lesson
 
 -- Each call gets the lesson that the call before it returned.
 abbrev pub Run : Lesson → List Call → Lesson → Type 0
@@ -131,6 +138,7 @@ stateRows d (take-out A) = (20, NoBook d) ∷ (21, NotBelow d A) ∷ (23, A ∉ 
 stateRows d (verdict A) = (20, NoBook d) ∷ (21, NotBelow d A) ∷ (24, ContradictoryOver (inBook (d .book)) d) ∷ []
 stateRows d (ask A default k) = (20, NoBook d) ∷ (21, NotBelow d A) ∷ []
 stateRows d model = (20, NoBook d) ∷ []
+stateRows d (listing buffer) = (20, NoBook d) ∷ (25, length buffer < length (listingIn d)) ∷ []
 
 -- the call meets the condition of this number, a load with the line of its file
 abbrev pub TurnsDown : Listed → Call → ℕ → ℕ → Type 0
@@ -140,6 +148,7 @@ TurnsDown d (take-out A) number line = First number (stateRows d (take-out A))
 TurnsDown d (verdict A) number line = First number (stateRows d (verdict A))
 TurnsDown d (ask A default k) number line = First number (stateRows d (ask A default k))
 TurnsDown d model number line = First number (stateRows d model)
+TurnsDown d (listing buffer) number line = First number (stateRows d (listing buffer))
 
 -- the reply is the refusal by this number, a load's with this line
 abbrev pub RefusedBy : (c : Call) → ReplyTo c → ℕ → ℕ → Type 0
@@ -149,6 +158,17 @@ RefusedBy (take-out A) r number line = factSays (r .answer) ≡ refused number
 RefusedBy (verdict A) r number line = verdictSays (r .answer) ≡ refused number
 RefusedBy (ask A default k) r number line = askSays (r .answer) ≡ refused number
 RefusedBy model r number line = modelSays (r .answer) ≡ refused number
+RefusedBy (listing buffer) r number line = listSays (r .0 .answer) ≡ refused number
+
+-- the earlier book and facts remain, and no byte of a lent buffer changes
+abbrev pub AsItWas : Lesson → (c : Call) → ReplyTo c → Type 0
+AsItWas l (load file) r = r .lesson ≡ l
+AsItWas l (put-in A) r = r .lesson ≡ l
+AsItWas l (take-out A) r = r .lesson ≡ l
+AsItWas l (verdict A) r = r .lesson ≡ l
+AsItWas l (ask A default k) r = r .lesson ≡ l
+AsItWas l model r = r .lesson ≡ l
+AsItWas l (listing buffer) r = (r .0 .lesson ≡ l) × (r .1 ≡ buffer)
 
 -- demand 2: the verdict of a literal of the book is its value in the least partial stable model
 pub record ModelVerdict (base : Set) (P : Program) (A : ℕ) (v : wfsx.Verdict) : Type 0 where

@@ -1,12 +1,14 @@
 // The lesson desk: a loaded book and the facts put in, by value, and the calls on them. Each call takes any lesson and any argument, and a refused
 // call returns the lesson that it was given.
 ghost use mathlib.Core.Path.{_≡_};
+ghost use Rattle.wfsx.specs.Sets.{∅};
 ghost use Rattle.desk.specs.Listed.{acknowledged, inOrder, gives};
-ghost use Rattle.desk.specs.Calls.{meaningOf, stateSays, Fresh, Loads, PutsIn, TakesOut, GivesVerdict, Answers, GivesModel};
+ghost use Rattle.desk.specs.Calls.{meaningOf, stateSays, LessonIs, Fresh, Loads, PutsIn, TakesOut, GivesVerdict, Answers, GivesModel, Lists};
 ghost use Rattle.search.specs.Questions.{treeOf, questionOf};
 use book::Book;
 use fixpoint::Clash;
 use fixpoint::Verdict;
+use lister::Written;
 use litset::LitSet;
 use reader::Answer;
 use search::Tree;
@@ -68,6 +70,16 @@ pub struct ModelReply {
     pub lesson: Lesson,
 }
 
+pub enum ListAnswer {
+    Length(usize),
+    Refused(u8),
+}
+
+pub struct ListReply {
+    pub answer: ListAnswer,
+    pub lesson: Lesson,
+}
+
 // A lesson with no book and no facts.
 pub fn fresh() -> Lesson
     ensures { λ r. ⌜ Fresh r ⌝ }
@@ -77,6 +89,17 @@ pub fn fresh() -> Lesson
         book: book::no_book(),
         facts: litset::empty(),
     }
+}
+
+// The lesson with another book: no facts are put in.
+fn with_book(l: Lesson, book: Book) -> Lesson
+    ensures { λ r. ⌜ LessonIs 1 book ∅ r ⌝ }
+{
+    let mut m = l;
+    m.loaded = 1;
+    m.book = book;
+    m.facts = litset::empty();
+    m
 }
 
 // A file becomes the lesson's book and empties the facts, or is refused under its number and line.
@@ -90,11 +113,7 @@ pub fn load(l: Lesson, file: &[u8]) -> LoadReply
             let book = read.book;
             return LoadReply {
                 answer: Answer::Accepted,
-                lesson: Lesson {
-                    loaded: 1,
-                    book,
-                    facts: litset::empty(),
-                },
+                lesson: with_book(l, book),
             };
         }
         Answer::Refused { number, line } => {
@@ -157,18 +176,18 @@ pub fn take_out(l: Lesson, literal: usize) -> FactReply
             lesson: l,
         };
     }
-    if !litset::contains(l.facts, literal) {
+    if litset::contains(l.facts, literal) {
+        let facts = litset::remove(l.facts, literal);
+        let mut m = l;
+        m.facts = facts;
         return FactReply {
-            answer: FactAnswer::Refused(23),
-            lesson: l,
+            answer: FactAnswer::Done,
+            lesson: m,
         };
     }
-    let facts = litset::remove(l.facts, literal);
-    let mut m = l;
-    m.facts = facts;
     FactReply {
-        answer: FactAnswer::Done,
-        lesson: m,
+        answer: FactAnswer::Refused(23),
+        lesson: l,
     }
 }
 
@@ -250,6 +269,33 @@ pub fn model(l: Lesson) -> ModelReply
                 answer: ModelAnswer::Consistent,
                 truths,
                 nonfalse,
+                lesson: l,
+            };
+        }
+    }
+}
+
+// The listing, into a lent buffer.
+pub fn listing(l: Lesson, buffer: &mut [u8]) -> ListReply
+    ensures { λ r. ⌜ Lists l (now (buffer .entry)) r (now (buffer .exit)) ⌝ }
+{
+    if l.loaded == 0 {
+        return ListReply {
+            answer: ListAnswer::Refused(20),
+            lesson: l,
+        };
+    }
+    let model = fixpoint::model_of(l.book, l.facts);
+    match lister::write(l.book, l.facts, model, buffer) {
+        Written::Length(n) => {
+            return ListReply {
+                answer: ListAnswer::Length(n),
+                lesson: l,
+            };
+        }
+        Written::Short => {
+            return ListReply {
+                answer: ListAnswer::Refused(25),
                 lesson: l,
             };
         }

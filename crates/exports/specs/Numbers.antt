@@ -21,6 +21,10 @@ use Rattle.desk.specs.declared.AskAnswer.{AskAnswer}
 use Rattle.desk.specs.declared.AskAnswer.the-variants as ask
 use Rattle.desk.specs.declared.ModelAnswer.{ModelAnswer}
 use Rattle.desk.specs.declared.ModelAnswer.the-variants as model
+use Rattle.desk.specs.declared.ListReply as desk-list
+use Rattle.desk.specs.declared.ListAnswer.{ListAnswer}
+use Rattle.desk.specs.declared.ListAnswer.the-variants as listing
+use Rattle.exports.specs.declared.ListingReply.{ListingReply}
 use Rattle.exports.specs.declared.LoadReply.{LoadReply}
 use Rattle.exports.specs.declared.ChangeReply.{ChangeReply}
 use Rattle.exports.specs.declared.VerdictReply.{VerdictReply}
@@ -104,3 +108,16 @@ abbrev pub ModelIn : (desk-model.ModelReply → Type 0) → ModelReply → Type 
 ModelIn May r =
     (q : desk-model.ModelReply) × May q × (r .number ≡ modelNumber (q .answer)) × (r .contradictory ≡ modelValue (q .answer))
     × (r .truths ≡ q .truths) × (r .nonfalse ≡ q .nonfalse)
+
+-- ---- listing
+
+abbrev pub listNumber : ListAnswer → ℕ
+listNumber (listing.Length n) = 0
+listNumber (listing.Refused number) = number
+
+abbrev pub listLength : ListAnswer → ℕ
+listLength (listing.Length n) = n
+listLength (listing.Refused number) = 0
+
+abbrev pub ListIn : (desk-list.ListReply → Type 0) → ListingReply → Type 0
+ListIn May r = (q : desk-list.ListReply) × May q × (r .number ≡ listNumber (q .answer)) × (r .length ≡ listLength (q .answer))

@@ -3,11 +3,12 @@
 ghost use mathlib.Core.Path.{_≡_};
 ghost use mathlib.Core.Bool.{Bool};
 ghost use Rattle.search.specs.Questions.{treeOf, questionOf};
-ghost use Rattle.desk.specs.Calls.{Fresh, Loads, PutsIn, TakesOut, GivesVerdict, Answers, GivesModel};
-ghost use Rattle.exports.specs.Numbers.{loadNumber, loadLine, factNumber, verdictNumber, verdictValue, askNumber, askValue, modelNumber, modelValue, isSet, kindOf, LoadIn, FactIn, VerdictIn, AskIn, ModelIn};
+ghost use Rattle.desk.specs.Calls.{Fresh, Loads, PutsIn, TakesOut, GivesVerdict, Answers, GivesModel, Lists};
+ghost use Rattle.exports.specs.Numbers.{loadNumber, loadLine, factNumber, verdictNumber, verdictValue, askNumber, askValue, modelNumber, modelValue, listNumber, listLength, isSet, kindOf, LoadIn, FactIn, VerdictIn, AskIn, ModelIn, ListIn};
 use desk::AskAnswer;
 use desk::FactAnswer;
 use desk::Lesson;
+use desk::ListAnswer;
 use desk::ModelAnswer;
 use desk::VerdictAnswer;
 use fixpoint::Verdict;
@@ -46,6 +47,12 @@ pub struct ModelReply {
     pub contradictory: u8,
     pub truths: LitSet,
     pub nonfalse: LitSet,
+}
+
+#[repr(C)]
+pub struct ListingReply {
+    pub number: u8,
+    pub length: usize,
 }
 
 #[no_mangle]
@@ -237,5 +244,35 @@ pub extern "C" fn mezhkura_model(lesson: Lesson) -> ModelReply
         contradictory: model_value(answer),
         truths,
         nonfalse,
+    }
+}
+
+fn list_number(a: ListAnswer) -> u8
+    ensures { λ r. ⌜ r ≡ listNumber a ⌝ }
+{
+    match a {
+        ListAnswer::Length(_) => 0,
+        ListAnswer::Refused(number) => number,
+    }
+}
+
+fn list_length(a: ListAnswer) -> usize
+    ensures { λ r. ⌜ r ≡ listLength a ⌝ }
+{
+    match a {
+        ListAnswer::Length(n) => n,
+        ListAnswer::Refused(_) => 0,
+    }
+}
+
+#[no_mangle]
+pub extern "C" fn mezhkura_listing(lesson: Lesson, buffer: &mut [u8]) -> ListingReply
+    ensures { λ r. ⌜ ListIn (λ q. Lists lesson (now (buffer .entry)) q (now (buffer .exit))) r ⌝ }
+{
+    let q = desk::listing(lesson, buffer);
+    let answer = q.answer;
+    ListingReply {
+        number: list_number(answer),
+        length: list_length(answer),
     }
 }

@@ -10,13 +10,13 @@ read-requires c κs = search needs
 enum-told : tie.Need-enum-told
 enum-told c = search needs
 
-empty-requires : tie.Need-empty-requires
-empty-requires c κs = search needs
+with-book-requires : tie.Need-with-book-requires
+with-book-requires c κs = search needs
 
 returns : tie.Need-returns
 returns c =
     let read = c .before .before .before .before .read in
-    load-accepted _ (read .result) _ (read .ensures) (c .before .before .enum-told .given .1) (c .empty .result) (c .empty .ensures)
+    load-accepted _ (read .result) _ (read .ensures) (c .before .before .enum-told .given .1) (c .with-book .result) (c .with-book .ensures)
 
 enum-known-answer : tie.Need-enum-known-answer
 enum-known-answer c = search needs
@@ -28,4 +28,4 @@ returns-2 c =
 
 pub load-spec : {M : Type 1} → statement M
 load-spec =
-    tie.close (tie.spec read-requires enum-told empty-requires returns enum-known-answer returns-2)
+    tie.close (tie.spec read-requires enum-told with-book-requires returns enum-known-answer returns-2)

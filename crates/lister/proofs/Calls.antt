@@ -1,0 +1,30 @@
+-- A first run of stores tells how long the bytes are, whatever it stores into. Where the buffer is shorter nothing is stored in it, and where it
+-- is not, a second run puts the bytes at its start.
+use mathlib.Core.Path.{_≡_, refl, ap, _∙_}
+use mathlib.Core.List.{List}
+use Prim.Native.Nat.{ℕ, _≤_, _<_}
+use native.Mathlib.Nat.{zero-add}
+use native.Mathlib.Omega.{arith}
+use lib.ListN.{length}
+use borrow.Author.Tests.{le-leb, lt-leb}
+use Rattle.lister.specs.declared.Written.the-variants.{Length, Short}
+use Rattle.lister.specs.Buffer.{writtenOf, bufferOf, Writes}
+use Rattle.lister.specs.Steps.{Put}
+use Rattle.lister.proofs.Stored.{put-whole}
+
+size : {bytes t u : List ℕ} {n : ℕ} → Put bytes 0 t u n → n ≡ length bytes
+size {bytes} tried = tried .place ∙ zero-add (length bytes)
+
+module _ {bytes t u before : List ℕ} {n : ℕ} (tried : Put bytes 0 t u n) where
+  pub writes-short : length before < n → Writes bytes before Short before
+  unfolding writtenOf bufferOf
+  writes-short h =
+      let no = lt-leb (length bytes) (length before) (omega (arith, size tried)) in
+      record { answer = rw no refl; buffer = rw no refl }
+
+  pub writes-whole : n ≤ length before → {after : List ℕ} {q : ℕ} → Put bytes 0 before after q → Writes bytes before (Length n) after
+  unfolding writtenOf bufferOf
+  writes-whole h x =
+      let fits : length bytes ≤ length before = omega (arith, size tried) in
+      let yes = le-leb (length bytes) (length before) fits in
+      record { answer = rw yes (ap Length (size tried)); buffer = rw yes (put-whole x fits) }

@@ -1,0 +1,232 @@
+-- The listing as the parts that are written one behind the other, and how long it can be.
+use mathlib.Core.Bool.{Bool, true, false, cond}
+use mathlib.Core.Path.{_≡_, refl, ap, _∙_}
+use mathlib.Core.List.{List, [], _∷_, _++_, append-assoc}
+use Prim.Native.Nat.{ℕ, zero, suc, _+_, _-_, _*_, _^_, _≤_, _<_}
+use native.Mathlib.Nat.{zero-add}
+use native.Mathlib.Decide.{decLt}
+use native.Mathlib.Numerals.{add-one}
+use native.Mathlib.Omega.{arith}
+use lib.ListN.{length, getD, drop, length-append, length-take, List·getD-eq-default}
+use Rattle.wfsx.specs.Sets.{Set, members, membersFrom}
+use Rattle.wfsx.proofs.Members.{length-first}
+use Rattle.litset.specs.Words.{capacity, setOf}
+use Rattle.litset.specs.declared.LitSet.{LitSet}
+use Rattle.wfsx.specs.Model.{Verdict, is-true, is-false, is-undefined}
+use Rattle.book.specs.Book.{rows, clamp, nameAt, namesIn, ruleAt, rulesOf}
+use Rattle.book.specs.declared.Book.{Book}
+use Rattle.book.specs.Limits.{maxNames, maxRules, maxLength}
+use Rattle.book.proofs.Rows.{rows-step, rows-end}
+use Rattle.book.proofs.Counts.{clamp-most}
+use Rattle.fixpoint.specs.declared.Model.{Model}
+use Rattle.fixpoint.specs.declared.Clash.{Clash}
+use Rattle.fixpoint.specs.declared.Clash.the-variants.{None, Name}
+use Rattle.lister.specs.Listing.{modelWord, contradictionWord, refusedWord, verdictWord, digits, field, line, nameLine, nameLines, listingBy, verdictsBy, listingIn, refusalOf}
+use Rattle.lister.specs.Steps.{Room, Put, countsTo, verdictsEnd}
+use Rattle.lister.proofs.Stored.{room-first, Left, left-step, left-none}
+use Rattle.lister.proofs.Digits.{digits-most}
+
+-- ---- rows of names
+
+module _ {X : Type 0} (f : ℕ → X) where
+  pub length-rows : (k n : ℕ) → length (rows f k n) ≡ n
+  unfolding rows
+  length-rows k zero = refl
+  length-rows k (suc n) = ap suc (length-rows (suc k) n)
+
+  pub row-at : (d : X) (k n i : ℕ) → i < n → getD (rows f k n) i d ≡ f (k + i)
+  unfolding rows
+  row-at d k zero i h = absurd (omega arith)
+  row-at d k (suc n) zero h = let e : k ≡ k + 0 = omega arith in ap f e
+  row-at d k (suc n) (suc i) h =
+      let e : suc k + i ≡ k + suc i = omega arith in
+      row-at d (suc k) n i (omega arith) ∙ ap f e
+
+-- ---- a name's line, and the lines from name k on
+
+pub name-line-is : (v : ℕ → Verdict) (k : ℕ) (name : List ℕ) → nameLine v k name ≡ field (digits k) 44 ++ (field name 44 ++ verdictsEnd v k)
+unfolding line
+name-line-is v k name = refl
+
+-- the lines that are left for a loop over n names that has come to name k
+abbrev pub linesLeft : (ℕ → Verdict) → (ℕ → List ℕ) → ℕ → ℕ → List ℕ
+linesLeft v f n k = nameLines v k (rows f k (n - k))
+
+module _ (v : ℕ → Verdict) (f : ℕ → List ℕ) (n k : ℕ) {all t u : List ℕ} {at p : ℕ} (left : Left all at t (linesLeft v f n k) p u) where
+  lines-step : k < n → linesLeft v f n k ≡ nameLine v k (f k) ++ linesLeft v f n (k + 1)
+  unfolding nameLines
+  lines-step h = rw (rows-step f k n h, add-one k)
+
+  lines-end : n ≤ k → linesLeft v f n k ≡ []
+  unfolding nameLines
+  lines-end h = rw (rows-end f k n h)
+
+  pub line-room : k < n → Room (nameLine v k (f k)) p
+  line-room h = room-first (nameLine v k (f k)) (linesLeft v f n (k + 1)) (rw (lines-step h) at (left .room))
+
+  pub line-stored : k < n → {w : List ℕ} {q : ℕ} → Put (nameLine v k (f k)) p u w q → Left all at t (linesLeft v f n (k + 1)) q w
+  line-stored h x = left-step (nameLine v k (f k)) (linesLeft v f n (k + 1)) (rw (lines-step h) at left) x
+
+  pub lines-stored : n ≤ k → Put all at t u p
+  lines-stored h = left-none (rw (lines-end h) at left)
+
+-- ---- the listing
+
+module _ (names : List (List ℕ)) (rules facts : ℕ) (v : ℕ → Verdict) where
+  pub clear-is : listingBy names rules facts v None ≡ field modelWord 44 ++ (countsTo 10 (length names) rules facts ++ nameLines v 0 names)
+  unfolding listingBy line
+  clear-is = append-assoc (field modelWord 44) (countsTo 10 (length names) rules facts) (nameLines v 0 names)
+
+  pub clash-is : (n : ℕ) → listingBy names rules facts v (Name n) ≡ field contradictionWord 44 ++ (countsTo 44 (length names) rules facts ++ field (getD names n []) 10)
+  unfolding listingBy line
+  clash-is n = simp append-assoc
+
+-- the same by the counts that the code has
+module _ (b : Book) (facts : LitSet) (m : Model) {names rules putIn : ℕ} (ns : names ≡ clamp maxNames (b .names)) (rs : rules ≡ clamp maxRules (b .rules))
+    (fs : putIn ≡ length (members capacity (setOf (facts .words)))) where
+  by-counts : (c : Clash) → m .clash ≡ c → listingIn b facts m ≡ listingBy (namesIn (b .text) (b .lengths) names) rules putIn (verdictsBy m) c
+  unfolding listingIn
+  by-counts c e = rw (ns, rs, fs, e, length-rows (ruleAt (b .heads) (b .starts) (b .entries)) 0 (clamp maxRules (b .rules)))
+
+  pub clear-parts : m .clash ≡ None
+      → listingIn b facts m ≡ field modelWord 44 ++ (countsTo 10 names rules putIn ++ nameLines (verdictsBy m) 0 (namesIn (b .text) (b .lengths) names))
+  clear-parts e =
+      by-counts None e ∙ clear-is (namesIn (b .text) (b .lengths) names) rules putIn (verdictsBy m) ∙ rw (length-rows (nameAt (b .text) (b .lengths)) 0 names)
+
+  pub clash-parts : (k : ℕ) → m .clash ≡ Name k
+      → listingIn b facts m ≡ field contradictionWord 44 ++ (countsTo 44 names rules putIn ++ field (getD (namesIn (b .text) (b .lengths) names) k []) 10)
+  clash-parts k e =
+      by-counts (Name k) e ∙ clash-is (namesIn (b .text) (b .lengths) names) rules putIn (verdictsBy m) k ∙ rw (length-rows (nameAt (b .text) (b .lengths)) 0 names)
+
+pub refusal-is : (number at : ℕ) → refusalOf number at ≡ field refusedWord 44 ++ (field (digits number) 44 ++ field (digits at) 10)
+unfolding refusalOf line
+refusal-is number at = refl
+
+-- ---- lengths
+
+length-field : (f : List ℕ) (stop : ℕ) → length (field f stop) ≡ length f + 1
+length-field f stop = length-append f (stop ∷ [])
+
+-- every number of the machine has at most 20 digits
+number-most : (n stop : ℕ) → n < 10 ^ 20 → length (field (digits n) stop) ≤ 21
+number-most n stop h = omega (arith, length-field (digits n) stop, digits-most 19 n h)
+
+verdict-most : (v : Verdict) → length (verdictWord v) ≤ 9
+verdict-most is-true = omega arith
+verdict-most is-false = omega arith
+verdict-most is-undefined = omega arith
+
+name-most : (text lengths : List ℕ) (k : ℕ) → length (nameAt text lengths k) ≤ 16
+name-most text lengths k =
+    let n = clamp maxLength (getD lengths k 0) in
+    rw (length-take n (drop (16 * k) text)) (omega (arith, clamp-most maxLength (getD lengths k 0)))
+
+one-most : (t : Bool) → cond t 1 0 ≤ 1
+one-most true = omega arith
+one-most false = omega arith
+
+members-most : (S : Set) (b n : ℕ) → length (membersFrom S b n) ≤ n
+unfolding membersFrom
+members-most S b zero = omega arith
+members-most S b (suc n) = omega (arith, length-first S b n, one-most (S b), members-most S (suc b) n)
+
+counts-most : (stop names rules facts : ℕ) → names < 10 ^ 20 → rules < 10 ^ 20 → facts < 10 ^ 20 → length (countsTo stop names rules facts) ≤ 63
+counts-most stop names rules facts a b c =
+    let rest = field (digits rules) 44 ++ field (digits facts) stop in
+    omega (
+      arith,
+      length-append (field (digits names) 44) rest,
+      length-append (field (digits rules) 44) (field (digits facts) stop),
+      number-most names 44 a,
+      number-most rules 44 b,
+      number-most facts stop c,
+    )
+
+line-most : (v : ℕ → Verdict) (k : ℕ) (name : List ℕ) → k < 10 ^ 20 → length name ≤ 16 → length (nameLine v k name) ≤ 58
+line-most v k name h l =
+    let first = verdictWord (v (2 * k)) in
+    let second = verdictWord (v (2 * k + 1)) in
+    omega (
+      arith,
+      ap length (name-line-is v k name),
+      length-append (field (digits k) 44) (field name 44 ++ verdictsEnd v k),
+      length-append (field name 44) (verdictsEnd v k),
+      length-append (field first 44) (field second 10),
+      length-field name 44,
+      length-field first 44,
+      length-field second 10,
+      number-most k 44 h,
+      verdict-most (v (2 * k)),
+      verdict-most (v (2 * k + 1)),
+    )
+
+lines-most : (v : ℕ → Verdict) (f : ℕ → List ℕ) → ((k : ℕ) → length (f k) ≤ 16) → (k n : ℕ) → k + n < 10 ^ 20 → length (nameLines v k (rows f k n)) ≤ 58 * n
+unfolding rows nameLines
+lines-most v f short k zero h = omega arith
+lines-most v f short k (suc n) h =
+    omega (arith, length-append (nameLine v k (f k)) (nameLines v (suc k) (rows f (suc k) n)), line-most v k (f k) (omega arith) (short k), lines-most v f short (suc k) n (omega arith))
+
+-- a name of the rows, or the empty name past them
+module _ (text lengths : List ℕ) (n k : ℕ) where
+  pub name-in : k < n → getD (rows (nameAt text lengths) 0 n) k [] ≡ nameAt text lengths k
+  name-in h = row-at (nameAt text lengths) [] 0 n k h ∙ ap (nameAt text lengths) (zero-add k)
+
+  pub name-past : n ≤ k → getD (rows (nameAt text lengths) 0 n) k [] ≡ []
+  name-past h = List·getD-eq-default (rows (nameAt text lengths) 0 n) [] (rw (length-rows (nameAt text lengths) 0 n) h)
+
+  name-short : length (getD (rows (nameAt text lengths) 0 n) k []) ≤ 16
+  name-short = go (decLt k n)
+    where
+      go : Dec (k < n) → length (getD (rows (nameAt text lengths) 0 n) k []) ≤ 16
+      go (yes h) = rw (name-in h) (name-most text lengths k)
+      go (no h) = rw (name-past (omega arith)) (omega arith)
+
+module _ (text lengths : List ℕ) (n rules facts : ℕ) (v : ℕ → Verdict) (few : n ≤ maxNames) (fit : rules < 10 ^ 20) (fit' : facts < 10 ^ 20) where
+  room-by : (c : Clash) → Room (listingBy (rows (nameAt text lengths) 0 n) rules facts v c) 0
+  room-by None =
+      let names = rows (nameAt text lengths) 0 n in
+      let size = length-rows (nameAt text lengths) 0 n in
+      let head = countsTo 10 (length names) rules facts in
+      record {
+        fits =
+            omega (
+              arith,
+              ap length (clear-is names rules facts v),
+              length-append (field modelWord 44) (head ++ nameLines v 0 names),
+              length-append head (nameLines v 0 names),
+              counts-most 10 (length names) rules facts (omega arith) fit fit',
+              lines-most v (nameAt text lengths) (name-most text lengths) 0 n (omega arith),
+            );
+      }
+  room-by (Name k) =
+      let names = rows (nameAt text lengths) 0 n in
+      let size = length-rows (nameAt text lengths) 0 n in
+      let head = countsTo 44 (length names) rules facts in
+      let last = getD names k [] in
+      record {
+        fits =
+            omega (
+              arith,
+              ap length (clash-is names rules facts v k),
+              length-append (field contradictionWord 44) (head ++ field last 10),
+              length-append head (field last 10),
+              counts-most 44 (length names) rules facts (omega arith) fit fit',
+              length-field last 10,
+              name-short text lengths n k,
+            );
+      }
+
+pub listing-room : (b : Book) (facts : LitSet) (m : Model) → Room (listingIn b facts m) 0
+unfolding listingIn
+listing-room b facts m =
+    room-by (b .text) (b .lengths) (clamp maxNames (b .names)) (length (rulesOf b)) (length (members capacity (setOf (facts .words)))) (verdictsBy m)
+    (clamp-most maxNames (b .names)) (omega (arith, length-rows (ruleAt (b .heads) (b .starts) (b .entries)) 0 (clamp maxRules (b .rules)), clamp-most maxRules (b .rules)))
+    (omega (arith, members-most (setOf (facts .words)) 0 capacity)) (m .clash)
+
+pub refusal-room : (number at : ℕ) → number < 10 ^ 20 → at < 10 ^ 20 → Room (refusalOf number at) 0
+refusal-room number at h l =
+    let rest = field (digits number) 44 ++ field (digits at) 10 in
+    record {
+      fits =
+          omega (arith, ap length (refusal-is number at), length-append (field refusedWord 44) rest, length-append (field (digits number) 44) (field (digits at) 10), number-most number 44 h, number-most at 10 l);
+    }

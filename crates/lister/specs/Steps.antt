@@ -1,0 +1,25 @@
+-- What the private functions of `lister` leave in a buffer (no public contract cites it).
+use mathlib.Core.Path.{_≡_}
+use mathlib.Core.List.{List, _++_}
+use Prim.Native.Nat.{ℕ, _+_, _*_, _≤_}
+use lib.ListN.{length}
+use lib.Seq.{sets}
+use Rattle.wfsx.specs.Model.{Verdict}
+use Rattle.lister.specs.Listing.{verdictWord, digits, field}
+
+-- Bytes that stand from `at` on end early enough for every place to be a number of the machine; no listing is longer.
+pub record Room (bytes : List ℕ) (at : ℕ) : Type 0 where
+  pub fits : at + length bytes ≤ 65536
+
+-- The bytes are stored from `at` on, those past the buffer's end left out, and `next` is the place behind them.
+pub record Put (bytes : List ℕ) (at : ℕ) (before after : List ℕ) (next : ℕ) : Type 0 where
+  pub place : next ≡ at + length bytes
+  pub stored : after ≡ sets before at bytes
+
+-- the counts of a header, with `stop` behind the last
+abbrev pub countsTo : ℕ → ℕ → ℕ → ℕ → List ℕ
+countsTo stop names rules facts = field (digits names) 44 ++ (field (digits rules) 44 ++ field (digits facts) stop)
+
+-- the verdicts of name k as the end of its line
+abbrev pub verdictsEnd : (ℕ → Verdict) → ℕ → List ℕ
+verdictsEnd v k = field (verdictWord (v (2 * k))) 44 ++ field (verdictWord (v (2 * k + 1))) 10

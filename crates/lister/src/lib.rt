@@ -1,0 +1,220 @@
+// The bytes of the listing and of a refusal, written into a lent buffer.
+ghost use mathlib.Core.Path.{_≡_};
+ghost use mathlib.Core.List.{[]};
+ghost use Prim.Native.Nat.{_<_, _≤_};
+ghost use lib.ListN.{getD, set};
+ghost use Rattle.book.specs.Limits.{maxNames};
+ghost use Rattle.book.specs.Book.{nameAt, namesIn};
+ghost use Rattle.lister.specs.Listing.{verdictWord, digits, field, nameLine, nameLines, verdictsBy, listingIn, refusalOf};
+ghost use Rattle.lister.specs.Buffer.{Writes};
+ghost use Rattle.lister.specs.Steps.{Room, Put, countsTo, verdictsEnd};
+use book::Book;
+use fixpoint::Clash;
+use fixpoint::Model;
+use fixpoint::Verdict;
+use litset::LitSet;
+
+// What became of a buffer: the listing's length, or that the buffer is shorter than the listing.
+pub enum Written {
+    Length(usize),
+    Short,
+}
+
+// ---- fields: each function writes from `at` on and answers the next place; past the end of the buffer nothing is stored
+
+fn put8(t: &mut [u8], i: usize, v: u8)
+    ensures { λ r. ⌜ now (t .exit) ≡ set (now (t .entry)) i v ⌝ }
+{
+    if i < t.len() {
+        t[i] = v;
+    }
+}
+
+// The bytes of s, and the byte `stop` behind them.
+fn put_word(t: &mut [u8], at: usize, s: &[u8], stop: u8) -> usize
+    requires { ⌜ Room (field (now s) stop) at ⌝ }
+    ensures { λ r. ⌜ Put (field (now (s .entry)) stop) at (now (t .entry)) (now (t .exit)) r ⌝ }
+{
+    let mut i = 0;
+    while i < s.len() {
+        put8(t, at + i, s[i]);
+        i += 1;
+    }
+    put8(t, at + i, stop);
+    at + i + 1
+}
+
+fn put_digits(t: &mut [u8], at: usize, n: usize) -> usize
+    requires { ⌜ Room (digits n) at ⌝ }
+    ensures { λ r. ⌜ Put (digits n) at (now (t .entry)) (now (t .exit)) r ⌝ }
+{
+    if n < 10 {
+        put8(t, at, 48 + n as u8);
+        return at + 1;
+    }
+    let p = put_digits(t, at, n / 10);
+    put8(t, p, 48 + (n % 10) as u8);
+    p + 1
+}
+
+fn put_number(t: &mut [u8], at: usize, n: usize, stop: u8) -> usize
+    requires { ⌜ Room (field (digits n) stop) at ⌝ }
+    ensures { λ r. ⌜ Put (field (digits n) stop) at (now (t .entry)) (now (t .exit)) r ⌝ }
+{
+    let p = put_digits(t, at, n);
+    put8(t, p, stop);
+    p + 1
+}
+
+fn put_verdict(t: &mut [u8], at: usize, model: Model, l: usize, stop: u8) -> usize
+    requires { ⌜ Room (field (verdictWord (verdictsBy model l)) stop) at ⌝ }
+    ensures { λ r. ⌜ Put (field (verdictWord (verdictsBy model l)) stop) at (now (t .entry)) (now (t .exit)) r ⌝ }
+{
+    match fixpoint::verdict_of(model, l) {
+        Verdict::True => {
+            return put_word(t, at, b"true", stop);
+        }
+        Verdict::False => {
+            return put_word(t, at, b"false", stop);
+        }
+        Verdict::Undefined => {
+            return put_word(t, at, b"undefined", stop);
+        }
+    }
+}
+
+// ---- lines
+
+// The counts of a header, and the byte `stop` behind the last.
+fn put_counts(t: &mut [u8], at: usize, names: usize, rules: usize, facts: usize, stop: u8) -> usize
+    requires { ⌜ Room (countsTo stop names rules facts) at ⌝ }
+    ensures { λ r. ⌜ Put (countsTo stop names rules facts) at (now (t .entry)) (now (t .exit)) r ⌝ }
+{
+    let p = put_number(t, at, names, b',');
+    let q = put_number(t, p, rules, b',');
+    put_number(t, q, facts, stop)
+}
+
+// The verdict of name k and the verdict of its explicit negation, the end of its line.
+fn put_verdicts(t: &mut [u8], at: usize, model: Model, k: usize) -> usize
+    requires { ⌜ Room (verdictsEnd (verdictsBy model) k) at × (k < maxNames) ⌝ }
+    ensures { λ r. ⌜ Put (verdictsEnd (verdictsBy model) k) at (now (t .entry)) (now (t .exit)) r ⌝ }
+{
+    let p = put_verdict(t, at, model, 2 * k, b',');
+    put_verdict(t, p, model, 2 * k + 1, 10)
+}
+
+// The line of name k.
+fn put_name_line<'a>(
+    t: &mut [u8],
+    at: usize,
+    text: &'a [u8],
+    lengths: &'a [u8],
+    k: usize,
+    model: Model,
+) -> usize
+    requires { ⌜ Room (nameLine (verdictsBy model) k (nameAt (now text) (now lengths) k)) at × (k < maxNames) ⌝ }
+    ensures { λ r. ⌜ Put (nameLine (verdictsBy model) k (nameAt (now (text .entry)) (now (lengths .entry)) k)) at (now (t .entry)) (now (t .exit)) r ⌝ }
+{
+    let p = put_number(t, at, k, b',');
+    let q = put_word(t, p, book::name_at(text, lengths, k), b',');
+    put_verdicts(t, q, model, k)
+}
+
+// The lines of the first `count` names.
+fn put_name_lines<'a>(
+    t: &mut [u8],
+    at: usize,
+    text: &'a [u8],
+    lengths: &'a [u8],
+    count: usize,
+    model: Model,
+) -> usize
+    requires { ⌜ Room (nameLines (verdictsBy model) 0 (namesIn (now text) (now lengths) count)) at × (count ≤ maxNames) ⌝ }
+    ensures { λ r. ⌜ Put (nameLines (verdictsBy model) 0 (namesIn (now (text .entry)) (now (lengths .entry)) count)) at (now (t .entry)) (now (t .exit)) r ⌝ }
+{
+    let mut p = at;
+    let mut k = 0;
+    while k < count {
+        p = put_name_line(t, p, text, lengths, k, model);
+        k += 1;
+    }
+    p
+}
+
+// Name k as the end of a line; a number past the names stands for the empty name.
+fn put_name_end<'a>(
+    t: &mut [u8],
+    at: usize,
+    text: &'a [u8],
+    lengths: &'a [u8],
+    count: usize,
+    k: usize,
+) -> usize
+    requires { ⌜ Room (field (getD (namesIn (now text) (now lengths) count) k []) 10) at ⌝ }
+    ensures { λ r. ⌜ Put (field (getD (namesIn (now (text .entry)) (now (lengths .entry)) count) k []) 10) at (now (t .entry)) (now (t .exit)) r ⌝ }
+{
+    if k < count {
+        return put_word(t, at, book::name_at(text, lengths, k), 10);
+    }
+    put_word(t, at, &text[..0], 10)
+}
+
+// ---- the listing, from the start of a buffer on
+
+fn put_listing(t: &mut [u8], book: Book, facts: LitSet, model: Model) -> usize
+    ensures { λ r. ⌜ Put (listingIn book facts model) 0 (now (t .entry)) (now (t .exit)) r ⌝ }
+{
+    let names = book::name_count(book);
+    let rules = book::rule_count(book);
+    let put_in = litset::count(facts);
+    let clash = model.clash;
+    match clash {
+        Clash::None => {
+            let p = put_word(t, 0, b"model", b',');
+            let q = put_counts(t, p, names, rules, put_in, 10);
+            return put_name_lines(t, q, &book.text, &book.lengths, names, model);
+        }
+        Clash::Name(k) => {
+            let p = put_word(t, 0, b"contradiction", b',');
+            let q = put_counts(t, p, names, rules, put_in, b',');
+            return put_name_end(t, q, &book.text, &book.lengths, names, k);
+        }
+    }
+}
+
+fn put_refusal(t: &mut [u8], number: u8, line: usize) -> usize
+    ensures { λ r. ⌜ Put (refusalOf number line) 0 (now (t .entry)) (now (t .exit)) r ⌝ }
+{
+    let p = put_word(t, 0, b"refused", b',');
+    let q = put_number(t, p, number as usize, b',');
+    put_number(t, q, line, 10)
+}
+
+// ---- the calls: a buffer of one byte tells the length, since the place behind the bytes does not depend on how many fit
+
+// The listing of a book, the facts put in and a model of them.
+pub fn write(book: Book, facts: LitSet, model: Model, buffer: &mut [u8]) -> Written
+    ensures { λ r. ⌜ Writes (listingIn book facts model) (now (buffer .entry)) r (now (buffer .exit)) ⌝ }
+{
+    let mut tried = [0u8; 1];
+    let n = put_listing(&mut tried, book, facts, model);
+    if buffer.len() < n {
+        return Written::Short;
+    }
+    put_listing(buffer, book, facts, model);
+    Written::Length(n)
+}
+
+// `refused,NUMBER,LINE`.
+pub fn write_refusal(number: u8, line: usize, buffer: &mut [u8]) -> Written
+    ensures { λ r. ⌜ Writes (refusalOf number line) (now (buffer .entry)) r (now (buffer .exit)) ⌝ }
+{
+    let mut tried = [0u8; 1];
+    let n = put_refusal(&mut tried, number, line);
+    if buffer.len() < n {
+        return Written::Short;
+    }
+    put_refusal(buffer, number, line);
+    Written::Length(n)
+}
