@@ -13,7 +13,7 @@ use Rattle.wfsx.specs.Trees.{Tree, T, TU, answer}
 use Rattle.wfsx.proofs.Agreement.{agreement}
 use Rattle.search.specs.Questions.{questionOf}
 use Rattle.desk.specs.Listed.{Listed, Shelf, empty, holding, noneLoaded, inBook, programIn, gives, Said, searchSays}
-use Rattle.desk.specs.Calls.{Fresh, askSays, Answers}
+use Rattle.desk.specs.Calls.{Fresh, askSays, Searches}
 use Rattle.desk.specs.Runs.{Call, left, Run, IsDue, Due}
 use Rattle.desk.specs.declared.Lesson.{Lesson}
 use Rattle.desk.specs.declared.AskReply.{AskReply}
@@ -49,7 +49,7 @@ some-book empty A i = let h = ltb-true A 0 i in absurd (omega arith)
 some-book (holding names rules) A i = refl
 
 pub demand3 : (cs : List Call) (start l : Lesson) → Fresh start → Run start cs l → (A : ℕ) → A ∈ inBook (left cs .book) → (default : Bool) (k : Tree) (r : AskReply)
-    → Answers l A k (questionOf A default) r → Due (programIn (left cs)) k default A (askSays (r .answer))
+    → Searches l A k (questionOf A default) r → Due (programIn (left cs)) k default A (askSays (r .answer))
 unfolding searchSays
 demand3 cs start l f run A i default k r h =
     let d = left cs in

@@ -34,7 +34,7 @@ use Rattle.fixpoint.specs.declared.Clash.the-variants as clash
 use Rattle.fixpoint.specs.declared.Model.{Model}
 use Rattle.fixpoint.proofs.Published.{book-no-clash, book-clash-name, verdict-same}
 use Rattle.desk.specs.Listed.{Said, acknowledged, programIn, gives, refused, inOrder, putInSays, takeOutSays, searchSays, ifLoaded, setGiven, Shelf, namesOn, rulesOn, listingIn, listingSays, bufferAfter}
-use Rattle.desk.specs.Calls.{LessonIs, meaningOf, stateSays, LoadsAs, PutsIn, TakesOut, GivesVerdict, Answers, GivesModel, Lists}
+use Rattle.desk.specs.Calls.{LessonIs, meaningOf, stateSays, LoadsAs, PutsIn, TakesOut, GivesVerdict, Searches, GivesModel, Lists}
 use Rattle.desk.specs.declared.Lesson.{Lesson}
 use Rattle.desk.specs.declared.FactAnswer.the-variants as fact
 use Rattle.desk.specs.declared.VerdictAnswer.the-variants as verdict
@@ -125,7 +125,7 @@ module _ (l : Lesson) (A n : ℕ) (e : stateSays n ≡ inOrder (meaningOf l) A (
         leaves = refl;
       }
 
-  pub ask-state : (n ≡ 0 → ⊥) → (k : trees.Tree) (question : Entry) → Answers l A k question (record { answer = ask.Refused n; lesson = l })
+  pub ask-state : (n ≡ 0 → ⊥) → (k : trees.Tree) (question : Entry) → Searches l A k question (record { answer = ask.Refused n; lesson = l })
   unfolding searchSays
   ask-state z k question = record { says = turned-down (meaningOf l) A n e _ z; leaves = refl }
 
@@ -137,7 +137,7 @@ module _ (l : Lesson) (A n : ℕ) (e : stateSays n ≡ inOrder (meaningOf l) A (
     same = program-is l (state-passed (meaningOf l) A n e z .0)
 
     pub ask-given : (k : trees.Tree) (question : Entry) (holds : Bool) → holds ≡ answer P k question
-        → Answers l A k question (record { answer = ask.Given holds; lesson = l })
+        → Searches l A k question (record { answer = ask.Given holds; lesson = l })
     unfolding searchSays
     ask-given k question holds h =
         record {

@@ -154,3 +154,10 @@ contradictory-or P over = go (both-below (M P) capacity)
         (λ c. let w = contradiction P room over .0 c in
         let h = ltb-true (2 * w .0) capacity (heads-in P room over (2 * w .0) (M-head P (2 * w .0) (w .1 .0))) in
         f (w .0) (omega arith) (w .1))
+
+-- every fact put in is among those that become rules: none is past the capacity
+pub facts-listed : (cs : List Call) (A : ℕ) → (A isIn members capacity (left cs .facts)) ↔ (A ∈ left cs .facts)
+facts-listed cs A =
+    let s = left-sound cs in
+    let are = members-are capacity (left cs .facts) A in
+    (λ i. are .0 i .0, λ h. are .1 (h, ltb-true A capacity (book-in-room (left cs) s A (s .facts-known A h))))

@@ -106,7 +106,7 @@ abbrev pub askSays : AskAnswer → Said Bool
 askSays (ask.Given holds) = gives holds
 askSays (ask.Refused number) = listed.refused number
 
-pub record Answers (l : Lesson) (A : ℕ) (k : trees.Tree) (question : Entry) (r : AskReply) : Type 0 where
+pub record Searches (l : Lesson) (A : ℕ) (k : trees.Tree) (question : Entry) (r : AskReply) : Type 0 where
   pub says : askSays (r .answer) ≡ searchSays (meaningOf l) A k question
   pub leaves : r .lesson ≡ l
 

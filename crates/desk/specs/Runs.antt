@@ -17,7 +17,7 @@ use Rattle.reader.specs.File as reader
 use Rattle.reader.specs.Conditions.{Row, First, IsRefused}
 use Rattle.reader.specs.declared.Answer.the-variants as reading
 use Rattle.desk.specs.Listed.{listingIn, empty, holding, Listed, namesOn, programIn, inBook, ContradictoryOver, Said, gives, refused, putInSays, takeOutSays}
-use Rattle.desk.specs.Calls.{Loads, factSays, PutsIn, TakesOut, verdictSays, GivesVerdict, askSays, Answers, modelSays, GivesModel, listSays, Lists}
+use Rattle.desk.specs.Calls.{Loads, factSays, PutsIn, TakesOut, verdictSays, GivesVerdict, askSays, Searches, modelSays, GivesModel, listSays, Lists}
 use Rattle.desk.specs.declared.Lesson.{Lesson}
 use Rattle.desk.specs.declared.LoadReply.{LoadReply}
 use Rattle.desk.specs.declared.FactReply.{FactReply}
@@ -89,7 +89,7 @@ Meets l (load file) r = Loads l file r
 Meets l (put-in A) r = PutsIn l A r
 Meets l (take-out A) r = TakesOut l A r
 Meets l (verdict A) r = GivesVerdict l A r
-Meets l (ask A default k) r = Answers l A k (questionOf A default) r
+Meets l (ask A default k) r = Searches l A k (questionOf A default) r
 Meets l model r = GivesModel l r
 Meets l (listing buffer) r = Lists l buffer (r .0) (r .1)
 
