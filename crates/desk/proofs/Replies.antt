@@ -33,7 +33,7 @@ use Rattle.fixpoint.specs.declared.Verdict.{Verdict}
 use Rattle.fixpoint.specs.declared.Clash.the-variants as clash
 use Rattle.fixpoint.specs.declared.Model.{Model}
 use Rattle.fixpoint.proofs.Published.{book-no-clash, book-clash-name, verdict-same}
-use Rattle.desk.specs.Listed.{Said, acknowledged, programIn, gives, refused, inOrder, putInSays, takeOutSays, searchSays, ifLoaded, setGiven, Shelf, namesOn, rulesOn, listingIn, listingSays, bufferAfter}
+use Rattle.desk.specs.Listed.{Said, acknowledged, programIn, gives, refused, inOrder, putInSays, takeOutSays, searchSays, ifLoaded, setGiven, BookState, itsNames, itsRules, listingIn, listingSays, bufferAfter}
 use Rattle.desk.specs.Calls.{LessonIs, meaningOf, stateSays, LoadsAs, PutsIn, TakesOut, GivesVerdict, Searches, GivesModel, Lists}
 use Rattle.desk.specs.declared.Lesson.{Lesson}
 use Rattle.desk.specs.declared.FactAnswer.the-variants as fact
@@ -41,7 +41,7 @@ use Rattle.desk.specs.declared.VerdictAnswer.the-variants as verdict
 use Rattle.desk.specs.declared.AskAnswer.the-variants as ask
 use Rattle.desk.specs.declared.ModelAnswer.the-variants as model
 use Rattle.desk.proofs.Order.{turned-down, state-passed, passed}
-use Rattle.desk.proofs.Meaning.{shelf-holding, none-loaded-is, loaded-is, inside-room, program-is}
+use Rattle.desk.proofs.Meaning.{state-loaded, none-loaded-is, loaded-is, inside-room, program-is}
 
 -- ---- load
 
@@ -240,7 +240,7 @@ short-length n e = true≢false (sym (ap isLength e))
 -- the listing of a lesson with a book
 lesson-bytes : (l : Lesson) → (l .loaded ≡ 0 → ⊥) → listingOf (namesOf (l .book)) (rulesOf (l .book)) (setOf (l .facts .words)) ≡ listingIn (meaningOf l)
 unfolding listingIn meaningOf
-lesson-bytes l e = ap (λ (b : Shelf). listingOf (namesOn b) (rulesOn b) (setOf (l .facts .words))) (sym (shelf-holding l e))
+lesson-bytes l e = ap (λ (b : BookState). listingOf (itsNames b) (itsRules b) (setOf (l .facts .words))) (sym (state-loaded l e))
 
 module _ (B before after : List ℕ) (w : Written) (h : Writes B before w after) where
   abbrev fitting : Said ℕ

@@ -22,14 +22,14 @@ use Rattle.book.specs.Limits.{maxNames}
 use Rattle.reader.specs.File.{Outcome, accepted, readFile}
 use Rattle.reader.specs.File as reader
 use Rattle.reader.proofs.Within.{accepted-within}
-use Rattle.desk.specs.Listed.{Listed, namesOn, rulesOn, programIn, noneLoaded, inBook, Said, gives, refused, Ack, inOrder, putInSays, takeOutSays, ContradictoryOver}
+use Rattle.desk.specs.Listed.{Listed, itsNames, itsRules, programIn, noneLoaded, inBook, Said, gives, refused, Ack, inOrder, putInSays, takeOutSays, ContradictoryOver}
 use Rattle.desk.specs.Calls.{room}
 use Rattle.desk.specs.Runs.{Call, load, put-in, take-out, verdict, ask, model, listing, nothing, reads, withSet, unlessRefused, after, afterAll, left}
 use Rattle.desk.proofs.Order.{given-refused}
 
 pub record Sound (d : Listed) : Type 0 where
-  pub few-names : length (namesOn (d .book)) ≤ maxNames
-  pub heads-known : (r : Rule) → r isIn rulesOn (d .book) → r .head ∈ inBook (d .book)
+  pub few-names : length (itsNames (d .book)) ≤ maxNames
+  pub heads-known : (r : Rule) → r isIn itsRules (d .book) → r .head ∈ inBook (d .book)
   pub facts-known : (A : ℕ) → A ∈ d .facts → A ∈ inBook (d .book)
 
 -- ---- each call keeps it
@@ -97,13 +97,13 @@ left-sound cs = sound-all nothing cs sound-nothing
 pub book-in-room : (d : Listed) → Sound d → (A : ℕ) → A ∈ inBook (d .book) → A ∈ room
 unfolding inBook
 book-in-room d s A i =
-    let h = ltb-true A (2 * length (namesOn (d .book))) i in
+    let h = ltb-true A (2 * length (itsNames (d .book))) i in
     let few = s .few-names in
     lt-ltb A capacity (omega arith)
 
 pub heads-in-book : (d : Listed) → Sound d → Heads⊆ (programIn d) (inBook (d .book))
 unfolding programIn
-heads-in-book d s r m = ⊎-elim (s .heads-known r) of-fact (List·Memᴰ·append-cases (rulesOn (d .book)) m)
+heads-in-book d s r m = ⊎-elim (s .heads-known r) of-fact (List·Memᴰ·append-cases (itsRules (d .book)) m)
   where
     of-fact : r isIn map fact (members capacity (d .facts)) → r .head ∈ inBook (d .book)
     of-fact i =

@@ -16,7 +16,7 @@ use Rattle.reader.specs.File.{Outcome, accepted, readFile}
 use Rattle.reader.specs.File as reader
 use Rattle.reader.specs.Conditions.{Row, First, IsRefused}
 use Rattle.reader.specs.declared.Answer.the-variants as reading
-use Rattle.desk.specs.Listed.{listingIn, empty, holding, Listed, namesOn, programIn, inBook, ContradictoryOver, Said, gives, refused, putInSays, takeOutSays}
+use Rattle.desk.specs.Listed.{listingIn, unloaded, loaded-with, Listed, itsNames, programIn, inBook, ContradictoryOver, Said, gives, refused, putInSays, takeOutSays}
 use Rattle.desk.specs.Calls.{Loads, factSays, PutsIn, TakesOut, verdictSays, GivesVerdict, askSays, Searches, modelSays, GivesModel, listSays, Lists}
 use Rattle.desk.specs.declared.Lesson.{Lesson}
 use Rattle.desk.specs.declared.LoadReply.{LoadReply}
@@ -38,11 +38,11 @@ pub data Call : Type 0 where
 
 -- at the start there is no book and the set is empty
 abbrev pub nothing : Listed
-nothing = record { book = empty; facts = ∅ }
+nothing = record { book = unloaded; facts = ∅ }
 
 -- a load makes the file's names and rules the book, and empties the set
 abbrev pub reads : Listed → Outcome → Listed
-reads d (accepted names rules) = record { book = holding names rules; facts = ∅ }
+reads d (accepted names rules) = record { book = loaded-with names rules; facts = ∅ }
 reads d (reader.refused number line) = d
 
 abbrev pub withSet : Listed → Set → Listed
@@ -125,11 +125,11 @@ pub record Due (P : Program) (k : Tree) (default : Bool) (A : ℕ) (said : Said 
 
 -- 20: no book is loaded
 abbrev pub NoBook : Listed → Type 0
-NoBook d = d .book ≡ empty
+NoBook d = d .book ≡ unloaded
 
 -- 21: the literal number isn't below twice the count of names
 abbrev pub NotBelow : Listed → ℕ → Type 0
-NotBelow d A = 2 * length (namesOn (d .book)) ≤ A
+NotBelow d A = 2 * length (itsNames (d .book)) ≤ A
 
 abbrev pub stateRows : Listed → Call → List Row
 stateRows d (load file) = []
