@@ -19,7 +19,7 @@ use Rattle.reader.specs.Conditions.{Row, First}
 use Rattle.reader.specs.declared.Answer.{Answer}
 use Rattle.reader.specs.declared.Answer.the-variants.{Refused}
 use Rattle.reader.proofs.Conditions.{refused-exactly}
-use Rattle.desk.specs.Listed.{listingIn, listingSays, bufferAfter, Listed, Shelf, empty, holding, namesOn, noneLoaded, inBook, programIn, Said, gives, refused, inOrder, ifLoaded, putInSays, takeOutSays, searchSays, ContradictoryOver, VerdictSays, ModelSays, acknowledged}
+use Rattle.desk.specs.Listed.{listingIn, listingSays, bufferAfter, Listed, BookState, unloaded, loaded-with, itsNames, noneLoaded, inBook, programIn, Said, gives, refused, inOrder, ifLoaded, putInSays, takeOutSays, searchSays, ContradictoryOver, VerdictSays, ModelSays, acknowledged}
 use Rattle.desk.specs.Calls.{meaningOf, Fresh, LoadsAs, room, factSays, FactsAfter}
 use Rattle.desk.specs.Runs.{AsItWas, Call, load, put-in, take-out, verdict, ask, model, listing, left, ReplyTo, Meets, Run, NoBook, NotBelow, stateRows, TurnsDown, RefusedBy}
 use Rattle.desk.specs.declared.Lesson.{Lesson}
@@ -54,17 +54,17 @@ unmet {X} n C rows said never by k = (λ h. inr (never, by k .0 h), back)
 given-by : {X : Type 0} (x : X) (said : Said X) → said ≡ gives x → By said []
 given-by x said e k = (λ h. given-refused x k (sym e ∙ h), λ w. absurd w)
 
-not-empty : (names : List (List ℕ)) (rules : List Rule) → _≡_ {A = Shelf} (holding names rules) empty → ⊥
-not-empty names rules e = true≢false (sym (ap noneLoaded e))
+not-unloaded : (names : List (List ℕ)) (rules : List Rule) → _≡_ {A = BookState} (loaded-with names rules) unloaded → ⊥
+not-unloaded names rules e = true≢false (sym (ap noneLoaded e))
 
 loaded-by : {X : Type 0} (d : Listed) (rows : List Row) (said : Said X) → (noneLoaded (d .book) ≡ true → said ≡ refused 20) → (noneLoaded (d .book) ≡ false → By said rows)
     → By said ((20, NoBook d) ∷ rows)
 loaded-by {X} d rows said none some = go (d .book) refl
   where
-    go : (b : Shelf) → d .book ≡ b → By said ((20, NoBook d) ∷ rows)
-    go empty e = met 20 (NoBook d) rows said e (none (ap noneLoaded e))
-    go (holding names rules) e =
-        unmet 20 (NoBook d) rows said (λ h. not-empty names rules (sym e ∙ h)) (some (ap noneLoaded e))
+    go : (b : BookState) → d .book ≡ b → By said ((20, NoBook d) ∷ rows)
+    go unloaded e = met 20 (NoBook d) rows said e (none (ap noneLoaded e))
+    go (loaded-with names rules) e =
+        unmet 20 (NoBook d) rows said (λ h. not-unloaded names rules (sym e ∙ h)) (some (ap noneLoaded e))
 
 order-by : {X : Type 0} (d : Listed) (A : ℕ) (rows : List Row) (fits said : Said X) → said ≡ inOrder d A fits → By fits rows
     → By said ((20, NoBook d) ∷ (21, NotBelow d A) ∷ rows)
@@ -74,9 +74,9 @@ order-by {X} d A rows fits said e by =
   where
     go : noneLoaded (d .book) ≡ false → (A ∈ inBook (d .book)) ⊎ (A ∉ inBook (d .book)) → By said ((21, NotBelow d A) ∷ rows)
     go h (inl i) =
-        let below = ltb-true A (2 * length (namesOn (d .book))) i in
+        let below = ltb-true A (2 * length (itsNames (d .book))) i in
         unmet 21 (NotBelow d A) rows said (λ q. omega arith) (rw (e ∙ inside d A fits h i) by)
-    go h (inr o) = met 21 (NotBelow d A) rows said (ltb-false A (2 * length (namesOn (d .book))) o) (e ∙ outside d A fits h o)
+    go h (inr o) = met 21 (NotBelow d A) rows said (ltb-false A (2 * length (itsNames (d .book))) o) (e ∙ outside d A fits h o)
 
 -- ---- the calls
 

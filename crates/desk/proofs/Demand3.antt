@@ -12,8 +12,8 @@ use Rattle.wfsx.specs.Program.{Program}
 use Rattle.wfsx.specs.Trees.{Tree, T, TU, answer}
 use Rattle.wfsx.proofs.Agreement.{agreement}
 use Rattle.search.specs.Questions.{questionOf}
-use Rattle.desk.specs.Listed.{Listed, Shelf, empty, holding, noneLoaded, inBook, programIn, gives, Said, searchSays}
-use Rattle.desk.specs.Calls.{Fresh, askSays, Answers}
+use Rattle.desk.specs.Listed.{Listed, BookState, unloaded, loaded-with, noneLoaded, inBook, programIn, gives, Said, searchSays}
+use Rattle.desk.specs.Calls.{Fresh, askSays, Searches}
 use Rattle.desk.specs.Runs.{Call, left, Run, IsDue, Due}
 use Rattle.desk.specs.declared.Lesson.{Lesson}
 use Rattle.desk.specs.declared.AskReply.{AskReply}
@@ -43,13 +43,13 @@ answer-due P T true A = not-same (agreement P A .2)
 answer-due P TU true A = not-same (agreement P A .3)
 
 -- a literal of a book tells that there is one
-pub some-book : (b : Shelf) (A : ℕ) → A ∈ inBook b → noneLoaded b ≡ false
+pub some-book : (b : BookState) (A : ℕ) → A ∈ inBook b → noneLoaded b ≡ false
 unfolding inBook
-some-book empty A i = let h = ltb-true A 0 i in absurd (omega arith)
-some-book (holding names rules) A i = refl
+some-book unloaded A i = let h = ltb-true A 0 i in absurd (omega arith)
+some-book (loaded-with names rules) A i = refl
 
 pub demand3 : (cs : List Call) (start l : Lesson) → Fresh start → Run start cs l → (A : ℕ) → A ∈ inBook (left cs .book) → (default : Bool) (k : Tree) (r : AskReply)
-    → Answers l A k (questionOf A default) r → Due (programIn (left cs)) k default A (askSays (r .answer))
+    → Searches l A k (questionOf A default) r → Due (programIn (left cs)) k default A (askSays (r .answer))
 unfolding searchSays
 demand3 cs start l f run A i default k r h =
     let d = left cs in

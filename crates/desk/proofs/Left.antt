@@ -14,21 +14,21 @@ use Rattle.reader.specs.File.{Outcome, accepted, readFile}
 use Rattle.reader.specs.File as reader
 use Rattle.reader.proofs.Within.{Within, accepted-within}
 use Rattle.scan.proofs.Bytes.{name-fits}
-use Rattle.desk.specs.Listed.{Listed, holding, putInSays, takeOutSays, Said, Ack}
+use Rattle.desk.specs.Listed.{Listed, loaded-with, putInSays, takeOutSays, Said, Ack}
 use Rattle.desk.specs.Listed as listed
-use Rattle.desk.specs.Calls.{shelfOf, meaningOf, LessonIs, Fresh, LoadsAs, factSays, FactsAfter}
+use Rattle.desk.specs.Calls.{bookStateOf, meaningOf, LessonIs, Fresh, LoadsAs, factSays, FactsAfter}
 use Rattle.desk.specs.Runs.{Call, load, put-in, take-out, verdict, ask, model, listing, nothing, reads, withSet, unlessRefused, after, afterAll, left, ReplyTo, Meets, lessonIn, Run}
 use Rattle.desk.specs.declared.Lesson.{Lesson}
 use Rattle.desk.specs.declared.LoadReply.{LoadReply}
 use Rattle.desk.specs.declared.FactAnswer.{FactAnswer}
 use Rattle.desk.specs.declared.FactAnswer.the-variants as fact
 
-pub lesson-means : (n : ℕ) (b : Book) (F : Set) (l : Lesson) → LessonIs n b F l → _≡_ {A = Listed} (meaningOf l) (record { book = shelfOf n b; facts = F })
+pub lesson-means : (n : ℕ) (b : Book) (F : Set) (l : Lesson) → LessonIs n b F l → _≡_ {A = Listed} (meaningOf l) (record { book = bookStateOf n b; facts = F })
 unfolding meaningOf
 lesson-means n b F l h = rw (h .loaded-is, h .book-is, h .facts-are) refl
 
 pub fresh-means : (l : Lesson) → Fresh l → meaningOf l ≡ nothing
-unfolding shelfOf
+unfolding bookStateOf
 fresh-means l h = lesson-means 0 noBook ∅ l h
 
 -- ---- load
@@ -44,8 +44,8 @@ module _ (file : List ℕ) (names : List (List ℕ)) (rules : List Rule) (e : re
         entries-fit = λ r i x j. let h = within .entries-known r i x j in let few = within .few-names in omega arith;
       }
 
-  accepted-means : shelfOf 1 (bookOf names rules) ≡ holding names rules
-  unfolding shelfOf
+  accepted-means : bookStateOf 1 (bookOf names rules) ≡ loaded-with names rules
+  unfolding bookStateOf
   accepted-means =
       rw (book-names names rules (λ n i. name-fits n (within .names-fit n i) .1) (within .few-names), book-rules names rules storable (within .few-rules)) refl
 

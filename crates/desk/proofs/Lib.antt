@@ -8,3 +8,4 @@ pub mod Sound
 pub mod Demand1
 pub mod Demand2
 pub mod Exists
+pub mod Cases

@@ -13,8 +13,8 @@ use Rattle.book.specs.Limits.{maxNames}
 use Rattle.book.specs.Book.{rows, clamp, nameAt, namesOf, rulesOf, programOf}
 use Rattle.book.specs.declared.Book.{Book}
 use Rattle.book.proofs.Counts.{clamp-most}
-use Rattle.desk.specs.Listed.{Shelf, empty, holding, noneLoaded, inBook, namesOn, rulesOn, programIn}
-use Rattle.desk.specs.Calls.{shelfOf, meaningOf}
+use Rattle.desk.specs.Listed.{BookState, unloaded, loaded-with, noneLoaded, inBook, itsNames, itsRules, programIn}
+use Rattle.desk.specs.Calls.{bookStateOf, meaningOf}
 use Rattle.desk.specs.declared.Lesson.{Lesson}
 
 rows-length : {X : Type 0} (f : ℕ → X) (k n : ℕ) → length (rows f k n) ≡ n
@@ -26,23 +26,23 @@ pub names-counted : (b : Book) → length (namesOf b) ≡ clamp maxNames (b .nam
 names-counted b = rows-length (nameAt (b .text) (b .lengths)) 0 (clamp maxNames (b .names))
 
 module _ (l : Lesson) where
-  pub shelf-empty : l .loaded ≡ 0 → meaningOf l .book ≡ empty
-  unfolding meaningOf shelfOf
-  shelf-empty e = rw (eq-eqb (l .loaded) 0 e) refl
+  pub state-unloaded : l .loaded ≡ 0 → meaningOf l .book ≡ unloaded
+  unfolding meaningOf bookStateOf
+  state-unloaded e = rw (eq-eqb (l .loaded) 0 e) refl
 
-  pub shelf-holding : (l .loaded ≡ 0 → ⊥) → meaningOf l .book ≡ holding (namesOf (l .book)) (rulesOf (l .book))
-  unfolding meaningOf shelfOf
-  shelf-holding e = rw (ne-eqb (l .loaded) 0 e) refl
+  pub state-loaded : (l .loaded ≡ 0 → ⊥) → meaningOf l .book ≡ loaded-with (namesOf (l .book)) (rulesOf (l .book))
+  unfolding meaningOf bookStateOf
+  state-loaded e = rw (ne-eqb (l .loaded) 0 e) refl
 
   pub none-loaded-is : l .loaded ≡ 0 → noneLoaded (meaningOf l .book) ≡ true
-  none-loaded-is e = rw (shelf-empty e) refl
+  none-loaded-is e = rw (state-unloaded e) refl
 
   pub loaded-is : (l .loaded ≡ 0 → ⊥) → noneLoaded (meaningOf l .book) ≡ false
-  loaded-is e = rw (shelf-holding e) refl
+  loaded-is e = rw (state-loaded e) refl
 
   module _ (e : l .loaded ≡ 0 → ⊥) (A n : ℕ) (count : n ≡ clamp maxNames (l .book .names)) where
-    twice-names : 2 * length (namesOn (meaningOf l .book)) ≡ 2 * n
-    twice-names = ap (λ (b : Shelf). 2 * length (namesOn b)) (shelf-holding e) ∙ ap (2 *_) (names-counted (l .book) ∙ sym count)
+    twice-names : 2 * length (itsNames (meaningOf l .book)) ≡ 2 * n
+    twice-names = ap (λ (b : BookState). 2 * length (itsNames b)) (state-loaded e) ∙ ap (2 *_) (names-counted (l .book) ∙ sym count)
 
     pub literal-outside : 2 * n ≤ A → inBook (meaningOf l .book) A ≡ false
     unfolding inBook
@@ -54,20 +54,20 @@ module _ (l : Lesson) where
 
   -- the program of a lesson with a book
   pub program-is : noneLoaded (meaningOf l .book) ≡ false → programOf (l .book) (setOf (l .facts .words)) ≡ programIn (meaningOf l)
-  unfolding programOf programIn meaningOf shelfOf
+  unfolding programOf programIn meaningOf bookStateOf
   program-is e = go (eqb (l .loaded) 0) e
     where
-      go : (t : Bool) → noneLoaded (cond t empty (holding (namesOf (l .book)) (rulesOf (l .book)))) ≡ false
-          → withFacts (rulesOf (l .book)) (members capacity (setOf (l .facts .words))) ≡ withFacts (rulesOn (cond t empty (holding (namesOf (l .book)) (rulesOf (l .book))))) (members capacity (setOf (l .facts .words)))
+      go : (t : Bool) → noneLoaded (cond t unloaded (loaded-with (namesOf (l .book)) (rulesOf (l .book)))) ≡ false
+          → withFacts (rulesOf (l .book)) (members capacity (setOf (l .facts .words))) ≡ withFacts (itsRules (cond t unloaded (loaded-with (namesOf (l .book)) (rulesOf (l .book))))) (members capacity (setOf (l .facts .words)))
       go true h = absurd (true≢false h)
       go false h = refl
 
   -- a literal of a lesson's book has room in a set
   pub inside-room : (A : ℕ) → inBook (meaningOf l .book) A ≡ true → A < capacity
-  unfolding inBook meaningOf shelfOf
+  unfolding inBook meaningOf bookStateOf
   inside-room A e = go (eqb (l .loaded) 0) e
     where
-      go : (t : Bool) → ltb A (2 * length (namesOn (cond t empty (holding (namesOf (l .book)) (rulesOf (l .book)))))) ≡ true → A < capacity
+      go : (t : Bool) → ltb A (2 * length (itsNames (cond t unloaded (loaded-with (namesOf (l .book)) (rulesOf (l .book)))))) ≡ true → A < capacity
       go true h = let i = ltb-true A 0 h in omega arith
       go false h =
           let i = ltb-true A (2 * length (namesOf (l .book))) h in

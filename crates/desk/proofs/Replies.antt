@@ -33,15 +33,15 @@ use Rattle.fixpoint.specs.declared.Verdict.{Verdict}
 use Rattle.fixpoint.specs.declared.Clash.the-variants as clash
 use Rattle.fixpoint.specs.declared.Model.{Model}
 use Rattle.fixpoint.proofs.Published.{book-no-clash, book-clash-name, verdict-same}
-use Rattle.desk.specs.Listed.{Said, acknowledged, programIn, gives, refused, inOrder, putInSays, takeOutSays, searchSays, ifLoaded, setGiven, Shelf, namesOn, rulesOn, listingIn, listingSays, bufferAfter}
-use Rattle.desk.specs.Calls.{LessonIs, meaningOf, stateSays, LoadsAs, PutsIn, TakesOut, GivesVerdict, Answers, GivesModel, Lists}
+use Rattle.desk.specs.Listed.{Said, acknowledged, programIn, gives, refused, inOrder, putInSays, takeOutSays, searchSays, ifLoaded, setGiven, BookState, itsNames, itsRules, listingIn, listingSays, bufferAfter}
+use Rattle.desk.specs.Calls.{LessonIs, meaningOf, stateSays, LoadsAs, PutsIn, TakesOut, GivesVerdict, Searches, GivesModel, Lists}
 use Rattle.desk.specs.declared.Lesson.{Lesson}
 use Rattle.desk.specs.declared.FactAnswer.the-variants as fact
 use Rattle.desk.specs.declared.VerdictAnswer.the-variants as verdict
 use Rattle.desk.specs.declared.AskAnswer.the-variants as ask
 use Rattle.desk.specs.declared.ModelAnswer.the-variants as model
 use Rattle.desk.proofs.Order.{turned-down, state-passed, passed}
-use Rattle.desk.proofs.Meaning.{shelf-holding, none-loaded-is, loaded-is, inside-room, program-is}
+use Rattle.desk.proofs.Meaning.{state-loaded, none-loaded-is, loaded-is, inside-room, program-is}
 
 -- ---- load
 
@@ -125,7 +125,7 @@ module _ (l : Lesson) (A n : ℕ) (e : stateSays n ≡ inOrder (meaningOf l) A (
         leaves = refl;
       }
 
-  pub ask-state : (n ≡ 0 → ⊥) → (k : trees.Tree) (question : Entry) → Answers l A k question (record { answer = ask.Refused n; lesson = l })
+  pub ask-state : (n ≡ 0 → ⊥) → (k : trees.Tree) (question : Entry) → Searches l A k question (record { answer = ask.Refused n; lesson = l })
   unfolding searchSays
   ask-state z k question = record { says = turned-down (meaningOf l) A n e _ z; leaves = refl }
 
@@ -137,7 +137,7 @@ module _ (l : Lesson) (A n : ℕ) (e : stateSays n ≡ inOrder (meaningOf l) A (
     same = program-is l (state-passed (meaningOf l) A n e z .0)
 
     pub ask-given : (k : trees.Tree) (question : Entry) (holds : Bool) → holds ≡ answer P k question
-        → Answers l A k question (record { answer = ask.Given holds; lesson = l })
+        → Searches l A k question (record { answer = ask.Given holds; lesson = l })
     unfolding searchSays
     ask-given k question holds h =
         record {
@@ -240,7 +240,7 @@ short-length n e = true≢false (sym (ap isLength e))
 -- the listing of a lesson with a book
 lesson-bytes : (l : Lesson) → (l .loaded ≡ 0 → ⊥) → listingOf (namesOf (l .book)) (rulesOf (l .book)) (setOf (l .facts .words)) ≡ listingIn (meaningOf l)
 unfolding listingIn meaningOf
-lesson-bytes l e = ap (λ (b : Shelf). listingOf (namesOn b) (rulesOn b) (setOf (l .facts .words))) (sym (shelf-holding l e))
+lesson-bytes l e = ap (λ (b : BookState). listingOf (itsNames b) (itsRules b) (setOf (l .facts .words))) (sym (state-loaded l e))
 
 module _ (B before after : List ℕ) (w : Written) (h : Writes B before w after) where
   abbrev fitting : Said ℕ

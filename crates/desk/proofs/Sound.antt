@@ -22,14 +22,14 @@ use Rattle.book.specs.Limits.{maxNames}
 use Rattle.reader.specs.File.{Outcome, accepted, readFile}
 use Rattle.reader.specs.File as reader
 use Rattle.reader.proofs.Within.{accepted-within}
-use Rattle.desk.specs.Listed.{Listed, namesOn, rulesOn, programIn, noneLoaded, inBook, Said, gives, refused, Ack, inOrder, putInSays, takeOutSays, ContradictoryOver}
+use Rattle.desk.specs.Listed.{Listed, itsNames, itsRules, programIn, noneLoaded, inBook, Said, gives, refused, Ack, inOrder, putInSays, takeOutSays, ContradictoryOver}
 use Rattle.desk.specs.Calls.{room}
 use Rattle.desk.specs.Runs.{Call, load, put-in, take-out, verdict, ask, model, listing, nothing, reads, withSet, unlessRefused, after, afterAll, left}
 use Rattle.desk.proofs.Order.{given-refused}
 
 pub record Sound (d : Listed) : Type 0 where
-  pub few-names : length (namesOn (d .book)) ≤ maxNames
-  pub heads-known : (r : Rule) → r isIn rulesOn (d .book) → r .head ∈ inBook (d .book)
+  pub few-names : length (itsNames (d .book)) ≤ maxNames
+  pub heads-known : (r : Rule) → r isIn itsRules (d .book) → r .head ∈ inBook (d .book)
   pub facts-known : (A : ℕ) → A ∈ d .facts → A ∈ inBook (d .book)
 
 -- ---- each call keeps it
@@ -97,13 +97,13 @@ left-sound cs = sound-all nothing cs sound-nothing
 pub book-in-room : (d : Listed) → Sound d → (A : ℕ) → A ∈ inBook (d .book) → A ∈ room
 unfolding inBook
 book-in-room d s A i =
-    let h = ltb-true A (2 * length (namesOn (d .book))) i in
+    let h = ltb-true A (2 * length (itsNames (d .book))) i in
     let few = s .few-names in
     lt-ltb A capacity (omega arith)
 
 pub heads-in-book : (d : Listed) → Sound d → Heads⊆ (programIn d) (inBook (d .book))
 unfolding programIn
-heads-in-book d s r m = ⊎-elim (s .heads-known r) of-fact (List·Memᴰ·append-cases (rulesOn (d .book)) m)
+heads-in-book d s r m = ⊎-elim (s .heads-known r) of-fact (List·Memᴰ·append-cases (itsRules (d .book)) m)
   where
     of-fact : r isIn map fact (members capacity (d .facts)) → r .head ∈ inBook (d .book)
     of-fact i =
@@ -154,3 +154,10 @@ contradictory-or P over = go (both-below (M P) capacity)
         (λ c. let w = contradiction P room over .0 c in
         let h = ltb-true (2 * w .0) capacity (heads-in P room over (2 * w .0) (M-head P (2 * w .0) (w .1 .0))) in
         f (w .0) (omega arith) (w .1))
+
+-- every fact put in is among those that become rules: none is past the capacity
+pub facts-listed : (cs : List Call) (A : ℕ) → (A isIn members capacity (left cs .facts)) ↔ (A ∈ left cs .facts)
+facts-listed cs A =
+    let s = left-sound cs in
+    let are = members-are capacity (left cs .facts) A in
+    (λ i. are .0 i .0, λ h. are .1 (h, ltb-true A capacity (book-in-room (left cs) s A (s .facts-known A h))))

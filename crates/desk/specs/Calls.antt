@@ -16,7 +16,7 @@ use Rattle.wfsx.specs.Model.{M, N}
 use Rattle.wfsx.specs.Trees as trees
 use Rattle.litset.specs.Words.{capacity}
 use Rattle.fixpoint.specs.Result.{verdictIs}
-use Rattle.desk.specs.Listed.{Ack, acknowledged, Shelf, empty, holding, Listed, Said, gives, putInSays, takeOutSays, searchSays, VerdictSays, ModelSays, setGiven, listingSays, bufferAfter}
+use Rattle.desk.specs.Listed.{Ack, acknowledged, BookState, unloaded, loaded-with, Listed, Said, gives, putInSays, takeOutSays, searchSays, VerdictSays, ModelSays, setGiven, listingSays, bufferAfter}
 use Rattle.desk.specs.Listed as listed
 use Rattle.desk.specs.declared.Lesson.{Lesson}
 use Rattle.desk.specs.declared.ListReply.{ListReply}
@@ -39,11 +39,11 @@ use Rattle.desk.specs.declared.ModelAnswer.the-variants as model
 -- ---- the meaning of a lesson, whatever its bits
 
 -- `loaded` 0 says that there is no book
-unfoldable pub shelfOf : ℕ → Book → Shelf
-shelfOf loaded b = cond (eqb loaded 0) empty (holding (namesOf b) (rulesOf b))
+unfoldable pub bookStateOf : ℕ → Book → BookState
+bookStateOf loaded b = cond (eqb loaded 0) unloaded (loaded-with (namesOf b) (rulesOf b))
 
 unfoldable pub meaningOf : Lesson → Listed
-meaningOf l = record { book = shelfOf (l .loaded) (l .book); facts = setOf (l .facts .words) }
+meaningOf l = record { book = bookStateOf (l .loaded) (l .book); facts = setOf (l .facts .words) }
 
 -- the parts of a lesson. (A set settles its words: `set-settles`.)
 pub record LessonIs (loaded : ℕ) (book : Book) (facts : Set) (l : Lesson) : Type 0 where
@@ -106,7 +106,7 @@ abbrev pub askSays : AskAnswer → Said Bool
 askSays (ask.Given holds) = gives holds
 askSays (ask.Refused number) = listed.refused number
 
-pub record Answers (l : Lesson) (A : ℕ) (k : trees.Tree) (question : Entry) (r : AskReply) : Type 0 where
+pub record Searches (l : Lesson) (A : ℕ) (k : trees.Tree) (question : Entry) (r : AskReply) : Type 0 where
   pub says : askSays (r .answer) ≡ searchSays (meaningOf l) A k question
   pub leaves : r .lesson ≡ l
 

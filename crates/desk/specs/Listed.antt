@@ -15,40 +15,41 @@ use Rattle.lister.specs.Listing.{listingOf}
 use Rattle.litset.specs.Words.{capacity}
 
 -- no book, or the names and rules of one
-pub data Shelf : Type 0 where
-  empty : Shelf
-  holding : List (List ℕ) → List Rule → Shelf
+pub data BookState : Type 0 where
+  unloaded : BookState
+  loaded-with : List (List ℕ) → List Rule → BookState
 
+-- what a lesson means, and what a list of calls leaves: a book or none, and the literals put in
 pub record Listed : Type 0 where
-  pub book : Shelf
+  pub book : BookState
   pub facts : Set
 
-abbrev pub namesOn : Shelf → List (List ℕ)
-namesOn empty = []
-namesOn (holding names rules) = names
+abbrev pub itsNames : BookState → List (List ℕ)
+itsNames unloaded = []
+itsNames (loaded-with names rules) = names
 
-abbrev pub rulesOn : Shelf → List Rule
-rulesOn empty = []
-rulesOn (holding names rules) = rules
+abbrev pub itsRules : BookState → List Rule
+itsRules unloaded = []
+itsRules (loaded-with names rules) = rules
 
 -- the book's rules, and for each fact put in a rule with that head and no body
 unfoldable pub programIn : Listed → Program
-programIn d = withFacts (rulesOn (d .book)) (members capacity (d .facts))
+programIn d = withFacts (itsRules (d .book)) (members capacity (d .facts))
 
 -- ---- the conditions that are read over a book and a set
 
 -- 20: no book is loaded
-abbrev pub noneLoaded : Shelf → Bool
-noneLoaded empty = true
-noneLoaded (holding names rules) = false
+abbrev pub noneLoaded : BookState → Bool
+noneLoaded unloaded = true
+noneLoaded (loaded-with names rules) = false
 
 -- a literal number below twice the count of names
-unfoldable pub inBook : Shelf → Set
-inBook b A = ltb A (2 * length (namesOn b))
+unfoldable pub inBook : BookState → Set
+inBook b A = ltb A (2 * length (itsNames b))
 
 -- the listing of what is loaded and put in
 unfoldable pub listingIn : Listed → List ℕ
-listingIn d = listingOf (namesOn (d .book)) (rulesOn (d .book)) (d .facts)
+listingIn d = listingOf (itsNames (d .book)) (itsRules (d .book)) (d .facts)
 
 -- ---- answers
 

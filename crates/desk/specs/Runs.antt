@@ -16,8 +16,8 @@ use Rattle.reader.specs.File.{Outcome, accepted, readFile}
 use Rattle.reader.specs.File as reader
 use Rattle.reader.specs.Conditions.{Row, First, IsRefused}
 use Rattle.reader.specs.declared.Answer.the-variants as reading
-use Rattle.desk.specs.Listed.{listingIn, empty, holding, Listed, namesOn, programIn, inBook, ContradictoryOver, Said, gives, refused, putInSays, takeOutSays}
-use Rattle.desk.specs.Calls.{Loads, factSays, PutsIn, TakesOut, verdictSays, GivesVerdict, askSays, Answers, modelSays, GivesModel, listSays, Lists}
+use Rattle.desk.specs.Listed.{listingIn, unloaded, loaded-with, Listed, itsNames, programIn, inBook, ContradictoryOver, Said, gives, refused, putInSays, takeOutSays}
+use Rattle.desk.specs.Calls.{Loads, factSays, PutsIn, TakesOut, verdictSays, GivesVerdict, askSays, Searches, modelSays, GivesModel, listSays, Lists}
 use Rattle.desk.specs.declared.Lesson.{Lesson}
 use Rattle.desk.specs.declared.LoadReply.{LoadReply}
 use Rattle.desk.specs.declared.FactReply.{FactReply}
@@ -38,11 +38,11 @@ pub data Call : Type 0 where
 
 -- at the start there is no book and the set is empty
 abbrev pub nothing : Listed
-nothing = record { book = empty; facts = ∅ }
+nothing = record { book = unloaded; facts = ∅ }
 
 -- a load makes the file's names and rules the book, and empties the set
 abbrev pub reads : Listed → Outcome → Listed
-reads d (accepted names rules) = record { book = holding names rules; facts = ∅ }
+reads d (accepted names rules) = record { book = loaded-with names rules; facts = ∅ }
 reads d (reader.refused number line) = d
 
 abbrev pub withSet : Listed → Set → Listed
@@ -89,7 +89,7 @@ Meets l (load file) r = Loads l file r
 Meets l (put-in A) r = PutsIn l A r
 Meets l (take-out A) r = TakesOut l A r
 Meets l (verdict A) r = GivesVerdict l A r
-Meets l (ask A default k) r = Answers l A k (questionOf A default) r
+Meets l (ask A default k) r = Searches l A k (questionOf A default) r
 Meets l model r = GivesModel l r
 Meets l (listing buffer) r = Lists l buffer (r .0) (r .1)
 
@@ -125,11 +125,11 @@ pub record Due (P : Program) (k : Tree) (default : Bool) (A : ℕ) (said : Said 
 
 -- 20: no book is loaded
 abbrev pub NoBook : Listed → Type 0
-NoBook d = d .book ≡ empty
+NoBook d = d .book ≡ unloaded
 
 -- 21: the literal number isn't below twice the count of names
 abbrev pub NotBelow : Listed → ℕ → Type 0
-NotBelow d A = 2 * length (namesOn (d .book)) ≤ A
+NotBelow d A = 2 * length (itsNames (d .book)) ≤ A
 
 abbrev pub stateRows : Listed → Call → List Row
 stateRows d (load file) = []

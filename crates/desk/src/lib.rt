@@ -3,7 +3,7 @@
 ghost use mathlib.Core.Path.{_≡_};
 ghost use Rattle.wfsx.specs.Sets.{∅};
 ghost use Rattle.desk.specs.Listed.{acknowledged, inOrder, gives};
-ghost use Rattle.desk.specs.Calls.{meaningOf, stateSays, LessonIs, Fresh, Loads, PutsIn, TakesOut, GivesVerdict, Answers, GivesModel, Lists};
+ghost use Rattle.desk.specs.Calls.{meaningOf, stateSays, LessonIs, Fresh, Loads, PutsIn, TakesOut, GivesVerdict, Searches, GivesModel, Lists};
 ghost use Rattle.search.specs.Questions.{treeOf, questionOf};
 use book::Book;
 use fixpoint::Clash;
@@ -223,7 +223,7 @@ pub fn verdict(l: Lesson, literal: usize) -> VerdictReply
 
 // The search of document 01: whether the literal, or `not` of it where `default` says so, has a tree of this kind.
 pub fn ask(l: Lesson, literal: usize, default: bool, tree: Tree) -> AskReply
-    ensures { λ r. ⌜ Answers l literal (treeOf tree) (questionOf literal default) r ⌝ }
+    ensures { λ r. ⌜ Searches l literal (treeOf tree) (questionOf literal default) r ⌝ }
 {
     let number = state_refusal(l, literal);
     if number != 0 {

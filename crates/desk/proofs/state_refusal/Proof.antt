@@ -23,12 +23,14 @@ mul-if2 c =
 returns-2 : tie.Need-returns-2
 returns-2 c =
     let left = c .before .before .if1 .left in
-    sym (outside _ _ _ (loaded-is _ left) (literal-outside _ left _ _ (c .before .name-count .ensures) (c .if2 .taken)))
+    let past = c .if2 .taken in
+    sym (outside _ _ _ (loaded-is _ left) (literal-outside _ left _ _ (c .before .name-count .ensures) (omega arith)))
 
 returns-3 : tie.Need-returns-3
 returns-3 c =
     let left = c .before .before .if1 .left in
-    sym (inside _ _ _ (loaded-is _ left) (literal-inside _ left _ _ (c .before .name-count .ensures) (c .if2 .left)))
+    let below = c .if2 .left in
+    sym (inside _ _ _ (loaded-is _ left) (literal-inside _ left _ _ (c .before .name-count .ensures) (omega arith)))
 
 pub state-refusal-spec : {M : Type 1} → statement M
 state-refusal-spec = tie.close (tie.spec returns name-count-requires mul-if2 returns-2 returns-3)
