@@ -5,8 +5,10 @@ use mathlib.Core.List.{List}
 use Prim.Native.Nat.{ℕ, _≤_, _<_}
 use native.Mathlib.Nat.{zero-add}
 use native.Mathlib.Omega.{arith}
-use lib.ListN.{length}
+use lib.ListN.{length, take, drop}
+use lib.Seq.{take-append-seam}
 use borrow.Author.Tests.{le-leb, lt-leb}
+use Rattle.lister.specs.declared.Written.{Written}
 use Rattle.lister.specs.declared.Written.the-variants.{Length, Short}
 use Rattle.lister.specs.Buffer.{writtenOf, bufferOf, Writes}
 use Rattle.lister.specs.Steps.{Put}
@@ -28,3 +30,13 @@ module _ {bytes t u before : List ℕ} {n : ℕ} (tried : Put bytes 0 t u n) whe
       let fits : length bytes ≤ length before = omega (arith, size tried) in
       let yes = le-leb (length bytes) (length before) fits in
       record { answer = rw yes (ap Length (size tried)); buffer = rw yes (put-whole x fits) }
+
+-- for a caller: what is left in a buffer that is long enough
+module _ {bytes before after : List ℕ} {r : Written} (w : Writes bytes before r after) (fits : length bytes ≤ length before) where
+  pub length-answered : r ≡ Length (length bytes)
+  unfolding writtenOf
+  length-answered = w .answer ∙ rw (le-leb (length bytes) (length before) fits) refl
+
+  pub bytes-first : take (length bytes) after ≡ bytes
+  unfolding bufferOf
+  bytes-first = ap (take (length bytes)) (w .buffer ∙ rw (le-leb (length bytes) (length before) fits) refl) ∙ take-append-seam bytes (drop (length bytes) before)

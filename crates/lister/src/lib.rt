@@ -198,12 +198,12 @@ pub fn write(book: Book, facts: LitSet, model: Model, buffer: &mut [u8]) -> Writ
     ensures { λ r. ⌜ Writes (listingIn book facts model) (now (buffer .entry)) r (now (buffer .exit)) ⌝ }
 {
     let mut tried = [0u8; 1];
-    let n = put_listing(&mut tried, book, facts, model);
-    if buffer.len() < n {
+    let length = put_listing(&mut tried, book, facts, model);
+    if buffer.len() < length {
         return Written::Short;
     }
     put_listing(buffer, book, facts, model);
-    Written::Length(n)
+    Written::Length(length)
 }
 
 // `refused,NUMBER,LINE`.

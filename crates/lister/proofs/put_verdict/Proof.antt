@@ -1,6 +1,7 @@
 -- `put_verdict`: each arm writes the word of its verdict.
 use borrow.Author.Needs.{needs}
 use mathlib.Core.Path.{_≡_, sym, ap, _∙_}
+use native.Mathlib.Omega.{arith}
 use Rattle.wfsx.specs.Model.{is-true, is-false, is-undefined}
 use Rattle.fixpoint.specs.Result.{verdictIs}
 use Rattle.lister.specs.Listing.{verdictsBy}
@@ -19,7 +20,8 @@ slice-aggregate-put-word c = search needs
 put-word-requires : tie.Need-put-word-requires
 put-word-requires c κs =
     let told : verdictsBy (c .before .before .before .before .before .before .args .model) (c .before .before .before .before .before .before .args .l) ≡ is-true = sym (c .before .before .before .before .verdict-of .ensures) ∙ ap verdictIs (c .before .before .enum-told .given .1) in
-    rw told at (c .before .before .before .before .before .before .pre)
+    let room = rw told at (c .before .before .before .before .before .before .pre) in
+    record { fits = omega arith }
 
 same-length : tie.Need-same-length
 same-length c = search needs
@@ -38,7 +40,8 @@ slice-aggregate-put-word-2 c = search needs
 put-word-requires-2 : tie.Need-put-word-requires-2
 put-word-requires-2 c κs =
     let told : verdictsBy (c .before .before .before .before .before .before .args .model) (c .before .before .before .before .before .before .args .l) ≡ is-false = sym (c .before .before .before .before .verdict-of .ensures) ∙ ap verdictIs (c .before .before .enum-told2 .given .1) in
-    rw told at (c .before .before .before .before .before .before .pre)
+    let room = rw told at (c .before .before .before .before .before .before .pre) in
+    record { fits = omega arith }
 
 same-length-2 : tie.Need-same-length-2
 same-length-2 c = search needs
@@ -57,7 +60,8 @@ slice-aggregate-put-word-3 c = search needs
 put-word-requires-3 : tie.Need-put-word-requires-3
 put-word-requires-3 c κs =
     let told : verdictsBy (c .before .before .before .before .before .before .args .model) (c .before .before .before .before .before .before .args .l) ≡ is-undefined = sym (c .before .before .before .before .verdict-of .ensures) ∙ ap verdictIs (c .before .before .enum-told3 .given .1) in
-    rw told at (c .before .before .before .before .before .before .pre)
+    let room = rw told at (c .before .before .before .before .before .before .pre) in
+    record { fits = omega arith }
 
 same-length-3 : tie.Need-same-length-3
 same-length-3 c = search needs

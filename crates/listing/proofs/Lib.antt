@@ -1,0 +1,2 @@
+-- The laws of what the program prints.
+pub mod Printed
