@@ -3,7 +3,7 @@
 ghost use mathlib.Core.Path.{_≡_};
 ghost use mathlib.Core.Bool.{Bool};
 ghost use Rattle.search.specs.Questions.{treeOf, questionOf};
-ghost use Rattle.desk.specs.Calls.{Fresh, Loads, PutsIn, TakesOut, GivesVerdict, Answers, GivesModel, Lists};
+ghost use Rattle.desk.specs.Calls.{Fresh, Loads, PutsIn, TakesOut, GivesVerdict, Searches, GivesModel, Lists};
 ghost use Rattle.exports.specs.Numbers.{loadNumber, loadLine, factNumber, verdictNumber, verdictValue, askNumber, askValue, modelNumber, modelValue, listNumber, listLength, isSet, kindOf, LoadIn, FactIn, VerdictIn, AskIn, ModelIn, ListIn};
 use desk::AskAnswer;
 use desk::FactAnswer;
@@ -201,7 +201,7 @@ pub extern "C" fn mezhkura_search(
     default: u8,
     tree: u8,
 ) -> SearchReply
-    ensures { λ r. ⌜ AskIn (Answers lesson literal (treeOf (kindOf tree)) (questionOf literal (isSet default))) r ⌝ }
+    ensures { λ r. ⌜ AskIn (Searches lesson literal (treeOf (kindOf tree)) (questionOf literal (isSet default))) r ⌝ }
 {
     let q = desk::ask(lesson, literal, is_set(default), kind_of(tree));
     let answer = q.answer;

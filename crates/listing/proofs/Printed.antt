@@ -16,7 +16,8 @@ use Rattle.reader.specs.Loading.{loadedOf}
 use Rattle.reader.specs.declared.Answer.{Answer}
 use Rattle.reader.specs.declared.Answer.the-variants.{Accepted, Refused}
 use Rattle.reader.specs.declared.Loaded.{Loaded}
-use Rattle.reader.proofs.Within.{Within, name-length, accepted-within}
+use Rattle.reader.proofs.Within.{Within, accepted-within}
+use Rattle.scan.proofs.Bytes.{name-fits}
 use Rattle.fixpoint.specs.Result.{ModelOf}
 use Rattle.fixpoint.specs.declared.Model.{Model}
 use Rattle.lister.specs.Listing.{listingOf, listingIn, refusalOf}
@@ -32,7 +33,7 @@ module _ (file : List ℕ) (names : List (List ℕ)) (rules : List Rule) (e : re
   within = accepted-within file names rules e
 
   its-names : namesOf (bookOf names rules) ≡ names
-  its-names = book-names names rules (λ n i. name-length n (within .names-fit n i) .1) (within .few-names)
+  its-names = book-names names rules (λ n i. name-fits n (within .names-fit n i) .1) (within .few-names)
 
   below : {n : ℕ} → n < 2 * length names → n < capacity
   below h = let few = within .few-names in omega arith

@@ -4,7 +4,7 @@ use mathlib.Core.Path.{_≡_, sym, ap₂, subst}
 use mathlib.Core.Bool.{Bool}
 use Rattle.search.specs.Questions.{treeOf, questionOf}
 use Rattle.search.specs.declared.Tree.{Tree}
-use Rattle.desk.specs.Calls.{Answers}
+use Rattle.desk.specs.Calls.{Searches}
 use Rattle.exports.specs.Numbers.{isSet}
 use Rattle.exports.proofs.mezhkura_search.Statement.{statement}
 use Rattle.exports.proofs.mezhkura_search.Tie as tie
@@ -28,9 +28,9 @@ returns : tie.Need-returns
 returns c =
     let d = c .before .before in
     let a = d .before .before .before .args in
-    let asked = subst (λ (x : Bool). Answers (a .lesson) (a .literal) (treeOf (d .before .kind-of .result)) (questionOf (a .literal) x) (d .ask .result)) (d .before .before .is-set .ensures) (d .ask .ensures) in (
+    let asked = subst (λ (x : Bool). Searches (a .lesson) (a .literal) (treeOf (d .before .kind-of .result)) (questionOf (a .literal) x) (d .ask .result)) (d .before .before .is-set .ensures) (d .ask .ensures) in (
       d .ask .result,
-      subst (λ (x : Tree). Answers (a .lesson) (a .literal) (treeOf x) (questionOf (a .literal) (isSet (a .default))) (d .ask .result)) (d .before .kind-of .ensures) asked,
+      subst (λ (x : Tree). Searches (a .lesson) (a .literal) (treeOf x) (questionOf (a .literal) (isSet (a .default))) (d .ask .result)) (d .before .kind-of .ensures) asked,
       c .before .ask-number .ensures,
       c .ask-value .ensures,
     )
