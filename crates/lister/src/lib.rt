@@ -44,6 +44,7 @@ fn put_word(t: &mut [u8], at: usize, s: &[u8], stop: u8) -> usize
     at + i + 1
 }
 
+// A number in decimal digits: those of its tenth, and the last.
 fn put_digits(t: &mut [u8], at: usize, n: usize) -> usize
     requires { ⌜ Room (digits n) at ⌝ }
     ensures { λ r. ⌜ Put (digits n) at (now (t .entry)) (now (t .exit)) r ⌝ }
@@ -57,6 +58,7 @@ fn put_digits(t: &mut [u8], at: usize, n: usize) -> usize
     p + 1
 }
 
+// A number, and the byte `stop` behind it.
 fn put_number(t: &mut [u8], at: usize, n: usize, stop: u8) -> usize
     requires { ⌜ Room (field (digits n) stop) at ⌝ }
     ensures { λ r. ⌜ Put (field (digits n) stop) at (now (t .entry)) (now (t .exit)) r ⌝ }
@@ -66,6 +68,7 @@ fn put_number(t: &mut [u8], at: usize, n: usize, stop: u8) -> usize
     p + 1
 }
 
+// The word of a literal's verdict, and the byte `stop` behind it.
 fn put_verdict(t: &mut [u8], at: usize, model: Model, l: usize, stop: u8) -> usize
     requires { ⌜ Room (field (verdictWord (verdictsBy model l)) stop) at ⌝ }
     ensures { λ r. ⌜ Put (field (verdictWord (verdictsBy model l)) stop) at (now (t .entry)) (now (t .exit)) r ⌝ }
