@@ -9,6 +9,7 @@ use borrow.Author.Tests.{eq-eqb, ne-eqb}
 use Rattle.wfsx.specs.Sets.{Set, _∈_, _∉_, _∖_}
 use Rattle.wfsx.proofs.Sets.{refuted}
 use Rattle.litset.specs.Words.{without}
+use Rattle.fixpoint.specs.Pass.{shut}
 
 module _ (F B : Set) where
   -- F without the members of B below l
@@ -53,3 +54,8 @@ module _ (F B : Set) where
         go A (no h) =
             let none : F A ≡ false = refuted (λ m. h (below A m)) in
             k .left A (omega arith) ∙ rw none refl
+
+-- where the complement is not asked for, nothing is shut
+pub all-open : (F S : Set) (asks : Bool) → asks ≡ false → F ≡ F ∖ shut asks S
+unfolding shut
+all-open F S asks e = fun-ext (λ A. sym (rw e (and-true (F A))))

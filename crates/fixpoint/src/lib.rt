@@ -101,6 +101,10 @@ fn add_heads<'a>(
 fn open_facts(facts: LitSet, asks: bool, s: LitSet) -> LitSet
     ensures { λ r. ⌜ setOf (r .words) ≡ setOf (facts .words) ∖ shut asks (setOf (s .words)) ⌝ }
 {
+    // Γ passes over none of them.
+    if !asks {
+        return facts;
+    }
     let mut x = facts;
     let mut l: usize = 0;
     while l < litset::CAPACITY {
