@@ -141,8 +141,16 @@ fn accepted(number: u8, line: usize) -> Result<(), Refused> {
 }
 
 fn members(set: exports::LitSet) -> BTreeSet<usize> {
-    let has = |l: &usize| set.words[l / 64] >> (l % 64) & 1 == 1;
-    (0..64 * set.words.len()).filter(has).collect()
+    let mut found = BTreeSet::new();
+    for (index, &word) in set.words.iter().enumerate() {
+        // Most words of most books are empty, so only the bits that are set are visited.
+        let mut rest = word;
+        while rest != 0 {
+            found.insert(64 * index + rest.trailing_zeros() as usize);
+            rest &= rest - 1;
+        }
+    }
+    found
 }
 
 /// For the comparison, which runs on a thread with the stack for searches.
