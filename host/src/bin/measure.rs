@@ -72,21 +72,35 @@ fn samples() -> Vec<Sample> {
         .collect()
 }
 
-/// The time of one run: the least of five means, each over at least 20 ms of runs.
-fn time_of<R>(mut work: impl FnMut() -> R) -> Duration {
-    let mut mean = || {
-        let start = Instant::now();
-        let mut runs = 0;
-        while runs == 0 || start.elapsed() < Duration::from_millis(20) {
-            black_box(work());
-            runs += 1;
-        }
-        start.elapsed() / runs
-    };
-    (0..5).map(|_| mean()).min().expect("five means")
+/// The mean time of a run, over at least 20 ms of runs.
+fn mean_of<R>(work: &mut impl FnMut() -> R) -> Duration {
+    let start = Instant::now();
+    let mut runs = 0;
+    while runs == 0 || start.elapsed() < Duration::from_millis(20) {
+        black_box(work());
+        runs += 1;
+    }
+    start.elapsed() / runs
 }
 
-fn print_row(label: &str, call: &str, engine: Duration, second: Duration) {
+/// The times of one run of each side: the least of five means.
+///
+/// The sides take turns, so that a change in the machine's speed meets both.
+fn times_of<R, S>(
+    mut engine: impl FnMut() -> R,
+    mut second: impl FnMut() -> S,
+) -> (Duration, Duration) {
+    let turns: Vec<_> = (0..5)
+        .map(|_| (mean_of(&mut engine), mean_of(&mut second)))
+        .collect();
+    let least = |side: fn(&(Duration, Duration)) -> Duration| turns.iter().map(side).min();
+    (
+        least(|turn| turn.0).expect("five turns"),
+        least(|turn| turn.1).expect("five turns"),
+    )
+}
+
+fn print_row(label: &str, call: &str, (engine, second): (Duration, Duration)) {
     let micros = |time: Duration| time.as_secs_f64() * 1e6;
     println!(
         "| {label} | {call} | {:.1} | {:.1} | {:.2} |",
@@ -108,35 +122,39 @@ fn print_calls_of(sample: &Sample) {
     let (label, file) = (sample.label, &sample.file[..]);
     let mut engine = Lesson::fresh();
     let mut other = second::Lesson::fresh();
-    let load = time_of(|| engine.load(black_box(file)).expect("the book loads"));
-    let second_load = time_of(|| other.load(black_box(file)).expect("the book loads"));
-    print_row(label, "load", load, second_load);
+    let load = times_of(
+        || engine.load(black_box(file)).expect("the book loads"),
+        || other.load(black_box(file)).expect("the book loads"),
+    );
+    print_row(label, "load", load);
     print_row(
         label,
         "model",
-        time_of(|| engine.model()),
-        time_of(|| other.model()),
+        times_of(|| engine.model(), || other.model()),
     );
-    print_row(
-        label,
-        "verdict",
-        time_of(|| engine.verdict(black_box(0))),
-        time_of(|| other.verdict(black_box(0))),
+    let verdict = times_of(
+        || engine.verdict(black_box(0)),
+        || other.verdict(black_box(0)),
     );
-    let mut buffer = vec![0; 8192];
-    let listing = time_of(|| engine.listing(&mut buffer));
-    let second_listing = time_of(|| other.listing(&mut buffer));
-    print_row(label, "listing", listing, second_listing);
+    print_row(label, "verdict", verdict);
+    let (mut buffer, mut second_buffer) = (vec![0; 8192], vec![0; 8192]);
+    let listing = times_of(
+        || engine.listing(&mut buffer),
+        || other.listing(&mut second_buffer),
+    );
+    print_row(label, "listing", listing);
     // A fact that is put in has to be taken out before it can be put in again.
-    let change = time_of(|| {
-        engine.put_in(black_box(1)).expect("the fact is out");
-        engine.take_out(black_box(1)).expect("the fact is in");
-    });
-    let second_change = time_of(|| {
-        other.put_in(black_box(1)).expect("the fact is out");
-        other.take_out(black_box(1)).expect("the fact is in");
-    });
-    print_row(label, "put in and take out", change, second_change);
+    let change = times_of(
+        || {
+            engine.put_in(black_box(1)).expect("the fact is out");
+            engine.take_out(black_box(1)).expect("the fact is in");
+        },
+        || {
+            other.put_in(black_box(1)).expect("the fact is out");
+            other.take_out(black_box(1)).expect("the fact is in");
+        },
+    );
+    print_row(label, "put in and take out", change);
 }
 
 /// A question that ends within the visits that a measurement allows.
@@ -184,8 +202,10 @@ fn print_search(sample: &Sample, tree: Tree) {
         println!("| {} | {tree:?} | none ends | | | | |", sample.label);
         return;
     };
-    let time = time_of(|| engine.search_here(question));
-    let second_time = time_of(|| other.search(question, u64::MAX));
+    let (time, second_time) = times_of(
+        || engine.search_here(question),
+        || other.search(question, u64::MAX),
+    );
     println!(
         "| {} | {tree:?}, literal {} | {visits} | {depth} | {:.1} | {:.1} | {:.2} |",
         sample.label,
