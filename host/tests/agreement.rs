@@ -120,42 +120,40 @@ fn model_is_the_published_one() {
     for _ in 0..400 {
         let lesson = random_lesson(&mut random, size);
         let book = lesson.book().expect("a book is loaded");
-        let program = Program::new(book, lesson.facts());
-        let seminormal = program.seminormal();
-        let halves = program.halves();
-        let context = || file_of(&lesson);
-        assert_eq!(
-            gamma(&program, &halves.nonfalse),
-            gamma_by_definition(&program, &halves.nonfalse),
-            "{}",
-            context()
-        );
-        assert_eq!(
-            halves.nonfalse,
-            gamma_by_definition(&seminormal, &halves.truths),
-            "{}",
-            context()
-        );
-        // M is inside every fixpoint, and no partial stable model exists exactly where M holds
-        // both literals of a name.
-        let fixpoint = |s: &Vec<bool>| gamma(&program, &gamma(&seminormal, s)) == *s;
-        let inside = |s: &Vec<bool>| halves.truths.iter().zip(s).all(|(m, x)| !m || *x);
-        assert!(fixpoint(&halves.truths), "{}", context());
-        assert!(
-            every_set(program.literals)
-                .filter(fixpoint)
-                .all(|s| inside(&s)),
-            "{}",
-            context()
-        );
-        let has_model = every_set(program.literals).any(|s| partial_stable(&program, &s));
-        assert_eq!(
-            has_model,
-            contradictory_name(&halves).is_none(),
-            "{}",
-            context()
-        );
+        check_model(&Program::new(book, lesson.facts()), &file_of(&lesson));
     }
+}
+
+/// The halves of the model against the published definitions, each by trying every set of literals.
+fn check_model(program: &Program, file: &str) {
+    let seminormal = program.seminormal();
+    let halves = program.halves();
+    assert_eq!(
+        gamma(program, &halves.nonfalse),
+        gamma_by_definition(program, &halves.nonfalse),
+        "{}",
+        file
+    );
+    assert_eq!(
+        halves.nonfalse,
+        gamma_by_definition(&seminormal, &halves.truths),
+        "{}",
+        file
+    );
+    // M is inside every fixpoint, and no partial stable model exists exactly where M holds
+    // both literals of a name.
+    let fixpoint = |s: &Vec<bool>| gamma(program, &gamma(&seminormal, s)) == *s;
+    let inside = |s: &Vec<bool>| halves.truths.iter().zip(s).all(|(m, x)| !m || *x);
+    assert!(fixpoint(&halves.truths), "{}", file);
+    assert!(
+        every_set(program.literals)
+            .filter(fixpoint)
+            .all(|s| inside(&s)),
+        "{}",
+        file
+    );
+    let has_model = every_set(program.literals).any(|s| partial_stable(program, &s));
+    assert_eq!(has_model, contradictory_name(&halves).is_none(), "{}", file);
 }
 
 /// A desk that is the second implementation, but for one thing that it does wrong.
