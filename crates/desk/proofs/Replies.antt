@@ -49,14 +49,6 @@ abbrev isAccepted : Answer → Bool
 isAccepted Accepted = true
 isAccepted (Refused number line) = false
 
-abbrev number : Answer → ℕ
-number Accepted = 0
-number (Refused k line) = k
-
-abbrev lineIn : Answer → ℕ
-lineIn Accepted = 0
-lineIn (Refused k line) = line
-
 pub refused-accepted : (k line : ℕ) → _≡_ {A = Answer} (Refused k line) Accepted → ⊥
 refused-accepted k line e = true≢false (sym (ap isAccepted e))
 
