@@ -1,7 +1,7 @@
 -- Document 01's number and values for each case of the desk's answers. An exported call answers the numbers of a reply that the desk's call may
 -- give; 0 says that it was not turned down.
 use mathlib.Core.Path.{_≡_}
-use mathlib.Core.Bool.{Bool, true, false, not, cond}
+use mathlib.Core.Bool.{Bool, not, cond}
 use Prim.Native.Nat.{ℕ}
 use lib.Dec.{eqb}
 use Rattle.reader.specs.declared.Answer.{Answer}

@@ -1,9 +1,9 @@
 -- What the tables hold, when a name or a rule is read: the fault of its line by the tests in their order, and the tables with it added.
 use mathlib.Core.Path.{_≡_, refl, sym, ap, ap₂, _∙_, subst}
 use mathlib.Core.Logic.{⊎-elim}
-use mathlib.Core.Bool.{Bool, true, false, not, or-true}
+use mathlib.Core.Bool.{Bool, true, false, not, _||_, or-true}
 use mathlib.Core.List.{List, [], _∷_, _++_, List·Memᴰ·append-cases, List·Memᴰ·eq-of-singleton}
-use Prim.Native.Nat.{ℕ, suc, _+_, _-_, _*_, _≤_, _<_}
+use Prim.Native.Nat.{ℕ, _+_, _-_, _*_, _≤_, _<_}
 use native.Mathlib.Omega.{arith}
 use lib.ListN.{length, set, length-append, length-map}
 use lib.Seq.{sets}
@@ -16,8 +16,8 @@ use Rattle.book.specs.Book.{clamp, namesIn, joined, codeOf, bodyCodes, textTabl
 use Rattle.book.proofs.Tables.{allCodes, text-more, length-more, head-more, start-more, entry-more}
 use Rattle.book.proofs.Counts.{clamp-least}
 use Rattle.book.proofs.Back.{names-back}
-use Rattle.reader.specs.File.{bodyLiterals, allFields, isLiteral, hasTilde, declared, _when_else_}
-use Rattle.reader.specs.Steps.{NameTable, RuleTable, nameFault, ruleFault}
+use Rattle.reader.specs.File.{bodyLiterals, allFields, isLiteral, hasTilde, headTilde, declared, _when_else_}
+use Rattle.reader.specs.Steps.{NameTable, RuleTable, nameFault, formFault, ruleForm, ruleFault}
 
 -- ---- names
 
@@ -54,52 +54,45 @@ module _ {names : List (List ℕ)} {count : ℕ} {text lengths : List ℕ} (t : 
 
 -- ---- rules
 
--- a number that is given where a test fails
-pub when-none : (k : ℕ) (b : Bool) (r : ℕ) → r ≡ (k when not b else 0) → r ≡ 0 → (k ≡ 0 → ⊥) → b ≡ true
-when-none k true r e z p = refl
-when-none k false r e z p = absurd (p (sym e ∙ z))
+-- a number that is given where a test says so
+pub when-none : (k : ℕ) (b : Bool) (r : ℕ) → r ≡ (k when b else 0) → r ≡ 0 → (k ≡ 0 → ⊥) → b ≡ false
+when-none k true r e z p = absurd (p (sym e ∙ z))
+when-none k false r e z p = refl
 
-pub when-some : (k : ℕ) (b : Bool) (r : ℕ) → r ≡ (k when not b else 0) → (r ≡ 0 → ⊥) → b ≡ false
-when-some k true r e p = absurd (p e)
-when-some k false r e p = refl
+pub when-some : (k : ℕ) (b : Bool) (r : ℕ) → r ≡ (k when b else 0) → (r ≡ 0 → ⊥) → b ≡ true
+when-some k true r e p = refl
+when-some k false r e p = absurd (p e)
 
-module _ (names : List (List ℕ)) (rules : List Rule) (h : List ℕ) (ls : List (List ℕ)) where
-  pub rule-head-malformed : isLiteral h ≡ false → 5 ≡ ruleFault names rules (h ∷ ls)
+-- the form of a rule by its head and the form of its body
+module _ (h : List ℕ) (ls : List (List ℕ)) where
+  pub head-malformed : isLiteral h ≡ false → 5 ≡ ruleForm (h ∷ ls)
   unfolding allFields
-  rule-head-malformed e = rw (e, or-true (hasTilde h))
+  head-malformed e = rw (e, or-true (hasTilde h))
 
-  pub rule-head-tilde : hasTilde h ≡ true → 5 ≡ ruleFault names rules (h ∷ ls)
-  rule-head-tilde e = rw e
+  pub head-tilde : hasTilde h ≡ true → 5 ≡ ruleForm (h ∷ ls)
+  head-tilde e = rw e
 
-  module _ (literal : isLiteral h ≡ true) where
-    pub rule-body-malformed : allFields isLiteral ls ≡ false → 5 ≡ ruleFault names rules (h ∷ ls)
-    unfolding allFields
-    rule-body-malformed e = rw (literal, e, or-true (hasTilde h))
+  pub head-formed : isLiteral h ≡ true → hasTilde h ≡ false → formFault ls ≡ ruleForm (h ∷ ls)
+  unfolding allFields
+  head-formed literal plain = rw (literal, plain)
 
-    module _ (plain : hasTilde h ≡ false) (body : allFields isLiteral ls ≡ true) where
-      pub rule-head-undeclared : declared names (nameOf h) ≡ false → 7 ≡ ruleFault names rules (h ∷ ls)
-      unfolding allFields
-      rule-head-undeclared e = rw (plain, literal, body, e)
+module _ (names : List (List ℕ)) (rules : List Rule) (fs : List (List ℕ)) where
+  pub rule-malformed : (headTilde fs || not (allFields isLiteral fs)) ≡ true → 5 ≡ ruleFault names rules fs
+  rule-malformed e = rw e
 
-      module _ (head-known : declared names (nameOf h) ≡ true) where
-        pub rule-body-undeclared : allFields (λ f. declared names (nameOf f)) ls ≡ false → 7 ≡ ruleFault names rules (h ∷ ls)
-        unfolding allFields
-        rule-body-undeclared e = rw (plain, literal, body, head-known, e)
+  module _ (formed : (headTilde fs || not (allFields isLiteral fs)) ≡ false) where
+    pub rule-undeclared : allFields (λ f. declared names (nameOf f)) fs ≡ false → 7 ≡ ruleFault names rules fs
+    rule-undeclared e = rw (formed, e)
 
-        module _ (body-known : allFields (λ f. declared names (nameOf f)) ls ≡ true) where
-          pub rule-too-many : maxRules ≤ length rules → 8 ≡ ruleFault names rules (h ∷ ls)
-          unfolding allFields
-          rule-too-many l = rw (plain, literal, body, head-known, body-known, le-leb maxRules (length rules) l)
+    module _ (known : allFields (λ f. declared names (nameOf f)) fs ≡ true) where
+      pub rule-too-many : maxRules ≤ length rules → 8 ≡ ruleFault names rules fs
+      rule-too-many l = rw (formed, known, le-leb maxRules (length rules) l)
 
-          pub rule-too-long : maxEntries < bodyLiterals rules + length ls → 8 ≡ ruleFault names rules (h ∷ ls)
-          unfolding allFields
-          rule-too-long l =
-              rw (plain, literal, body, head-known, body-known, lt-ltb maxEntries (bodyLiterals rules + (suc (length ls) - 1)) (omega arith), or-true (leb maxRules (length rules)))
+      pub rule-too-long : maxEntries < bodyLiterals rules + (length fs - 1) → 8 ≡ ruleFault names rules fs
+      rule-too-long l = rw (formed, known, lt-ltb maxEntries (bodyLiterals rules + (length fs - 1)) l, or-true (leb maxRules (length rules)))
 
-          pub rule-fine : length rules < maxRules → bodyLiterals rules + length ls ≤ maxEntries → 0 ≡ ruleFault names rules (h ∷ ls)
-          unfolding allFields
-          rule-fine l m =
-              rw (plain, literal, body, head-known, body-known, lt-leb maxRules (length rules) l, le-ltb maxEntries (bodyLiterals rules + (suc (length ls) - 1)) (omega arith))
+      pub rule-fine : length rules < maxRules → bodyLiterals rules + (length fs - 1) ≤ maxEntries → 0 ≡ ruleFault names rules fs
+      rule-fine l m = rw (formed, known, lt-leb maxRules (length rules) l, le-ltb maxEntries (bodyLiterals rules + (length fs - 1)) m)
 
 bodies-more : (rules : List Rule) (r : Rule) → bodyLiterals (rules ++ (r ∷ [])) ≡ bodyLiterals rules + length (r .body)
 unfolding bodyLiterals

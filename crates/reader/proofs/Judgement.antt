@@ -15,7 +15,7 @@ use Rattle.book.specs.Book.{padded, joined, startsFrom, bookOf}
 use Rattle.book.specs.Limits.{maxNames, maxRules, maxEntries, maxLength}
 use Rattle.book.proofs.Tables.{padded-length, text-length, allCodes, starts-length}
 use Rattle.reader.specs.File.{Content, nothingYet, bodyLiterals, allFields, declared, wrongFields, malformed, declaredBefore, usesUndeclared, beyondTable, faultOf, lineFault, ruleFrom, extended, withLine, accepted, refused, readLines, maxBytes, unended, linesOf, readFile}
-use Rattle.reader.specs.Steps.{NameTable, RuleTable, Holds, nameFault, ruleFault, LineRead}
+use Rattle.reader.specs.Steps.{NameTable, RuleTable, Holds, nameFault, ruleFault, LineRead, noCounts}
 use Rattle.reader.proofs.Held.{codes-length}
 use Rattle.reader.specs.declared.Counts.{Counts}
 use Rattle.reader.specs.declared.LineAnswer.{LineAnswer}
@@ -79,21 +79,18 @@ only-field line p e one q =
 
 -- ---- what a line does to the tables
 
-module _ (d : Content) (w : Word) {first : List ℕ} {fs others : List (List ℕ)} (part : fs ≡ first ∷ others) (word : wordOf first ≡ w) where
-  fault-by : lineFault d fs ≡ faultOf d w others
-  unfolding lineFault
-  fault-by = ap (lineFault d) part ∙ ap (λ (x : Word). faultOf d x others) word
+-- a line of fields fs is judged by its first word w and the others
+pub record ByWord (d : Content) (w : Word) (fs others : List (List ℕ)) : Type 0 where
+  pub fault-is : lineFault d fs ≡ faultOf d w others
+  pub content-is : withLine d fs ≡ extended d w others
 
-  with-by : withLine d fs ≡ extended d w others
-  unfolding withLine
-  with-by = ap (withLine d) part ∙ ap (λ (x : Word). extended d x others) word
-
-  pub line-fault : (k : ℕ) → faultOf d w others ≡ k → (k ≡ 0 → ⊥) → (lineFault d fs ≡ k) × (k ≡ 0 → ⊥)
-  line-fault k e n = (fault-by ∙ e, n)
-
-  pub line-fine : (t : Counts) (text lengths heads starts entries : List ℕ) → faultOf d w others ≡ 0 → Holds (extended d w others) t text lengths heads starts entries
-      → (lineFault d fs ≡ 0) × Holds (withLine d fs) t text lengths heads starts entries
-  line-fine t text lengths heads starts entries e h = (fault-by ∙ e, subst (λ (x : Content). Holds x t text lengths heads starts entries) (sym with-by) h)
+pub by-first : (d : Content) (w : Word) {first : List ℕ} {fs others : List (List ℕ)} → fs ≡ first ∷ others → wordOf first ≡ w → ByWord d w fs others
+unfolding lineFault withLine
+by-first d w {others = others} part word =
+    record {
+      fault-is = ap (lineFault d) part ∙ ap (λ (x : Word). faultOf d x others) word;
+      content-is = ap (withLine d) part ∙ ap (λ (x : Word). extended d x others) word;
+    }
 
 module _ {d : Content} {t : Counts} {text lengths heads starts entries : List ℕ} (h : Holds d t text lengths heads starts entries) (open-yet : d .ended ≡ false) where
   pub after-name : (others : List (List ℕ)) (n text′ lengths′ : List ℕ) → others ≡ n ∷ [] → NameTable (d .names ++ (n ∷ [])) (t .names + 1) text′ lengths′
@@ -145,7 +142,7 @@ pub record ReadTo (b : List ℕ) (t : Counts) (at number : ℕ) (text lengths he
   pub same : readLines content number (rest 10 b at) ≡ readLines nothingYet 1 (split 10 b)
 
 pub read-none : (b : List ℕ)
-    → ReadTo b (record { names = 0; rules = 0; used = 0; ended = false }) 0 1 (replicate 2048 0) (replicate 128 0) (replicate 512 0) (replicate 513 0) (replicate 2048 0)
+    → ReadTo b noCounts 0 1 (replicate 2048 0) (replicate 128 0) (replicate 512 0) (replicate 513 0) (replicate 2048 0)
 unfolding joined startsFrom bodyLiterals
 read-none b =
     record {
@@ -194,13 +191,13 @@ module _ {d : Content} {t : Counts} {text lengths heads starts entries : List �
       let r = h .rules-held in
       ap length (r .entries-are) ∙ padded-length maxEntries (allCodes (d .rules)) (omega (arith, codes-length (d .rules), r .used-is, r .room))
 
--- a line's judgement by its case
-module _ (d : Content) (fs : List (List ℕ)) (j : LineAnswer) (text lengths heads starts entries : List ℕ) (told : LineRead d fs j text lengths heads starts entries) where
-  pub was-fine : (t : Counts) → j ≡ Fine t → (lineFault d fs ≡ 0) × Holds (withLine d fs) t text lengths heads starts entries
-  was-fine t e = subst (λ (x : LineAnswer). LineRead d fs x text lengths heads starts entries) e told
+-- the answer to a line by its case
+module _ (fault : ℕ) (d : Content) (r : LineAnswer) (text lengths heads starts entries : List ℕ) (told : LineRead fault d r text lengths heads starts entries) where
+  pub was-fine : (t : Counts) → r ≡ Fine t → (fault ≡ 0) × Holds d t text lengths heads starts entries
+  was-fine t e = subst (λ (x : LineAnswer). LineRead fault d x text lengths heads starts entries) e told
 
-  pub was-fault : (k : ℕ) → j ≡ Fault k → (lineFault d fs ≡ k) × (k ≡ 0 → ⊥)
-  was-fault k e = subst (λ (x : LineAnswer). LineRead d fs x text lengths heads starts entries) e told
+  pub was-fault : (k : ℕ) → r ≡ Fault k → (fault ≡ k) × (k ≡ 0 → ⊥)
+  was-fault k e = subst (λ (x : LineAnswer). LineRead fault d x text lengths heads starts entries) e told
 
 -- ---- the whole file, by the tests in their order
 

@@ -1,7 +1,7 @@
 -- What the reader's own functions tell each other: the tables that hold what has been read, and the fault of a name's and of a rule's line. The
 -- contract of `read` cites none of this.
 use mathlib.Core.Path.{_≡_}
-use mathlib.Core.Bool.{not, _||_}
+use mathlib.Core.Bool.{false, not, _||_}
 use mathlib.Core.List.{List, [], _∷_, _++_}
 use Prim.Native.Nat.{ℕ, _+_, _-_, _*_, _≤_}
 use lib.Dec.{leb, ltb}
@@ -9,11 +9,12 @@ use lib.ListN.{length}
 use Rattle.wfsx.specs.Sets.{_isIn_}
 use Rattle.wfsx.specs.Program.{Rule}
 use Rattle.scan.specs.Text.{isName, tildes, minuses, nameOf}
+use Rattle.scan.specs.declared.Word.{Word}
 use Rattle.book.specs.Limits.{maxNames, maxRules, maxEntries, maxLength}
 use Rattle.book.specs.Book.{find, textTable, lengthTable, headTable, startTable, entryTable}
 use Rattle.book.specs.declared.Found.{Found}
 use Rattle.book.specs.declared.Found.the-variants.{Nothing, At}
-use Rattle.reader.specs.File.{Content, bodyLiterals, allFields, isLiteral, declared, headTilde, _when_else_, ruleFrom, lineFault, withLine}
+use Rattle.reader.specs.File.{Content, bodyLiterals, allFields, isLiteral, declared, headTilde, _when_else_, ruleFrom, faultOf, extended}
 use Rattle.reader.specs.declared.Counts.{Counts}
 use Rattle.reader.specs.declared.LineAnswer.{LineAnswer}
 use Rattle.reader.specs.declared.LineAnswer.the-variants.{Fine, Fault}
@@ -43,6 +44,9 @@ pub record Holds (d : Content) (t : Counts) (text lengths heads starts entries :
   pub rules-held : RuleTable (d .rules) (t .rules) (t .used) heads starts entries
   pub ended-is : t .ended ≡ d .ended
 
+abbrev pub noCounts : Counts
+noCounts = record { names = 0; rules = 0; used = 0; ended = false }
+
 -- ---- the fault of a line whose first field and count of fields are right
 
 abbrev pub nameFault : List (List ℕ) → List ℕ → ℕ
@@ -55,6 +59,10 @@ nameFault names n =
 -- 5 where a field is malformed
 abbrev pub formFault : List (List ℕ) → ℕ
 formFault fs = 5 when not (allFields isLiteral fs) else 0
+
+-- 5 where the head of a rule has a `~`, or a field is malformed
+abbrev pub ruleForm : List (List ℕ) → ℕ
+ruleForm fs = 5 when headTilde fs || not (allFields isLiteral fs) else 0
 
 -- 7 where a field's name is not declared
 abbrev pub knownFault : List (List ℕ) → List (List ℕ) → ℕ
@@ -87,7 +95,11 @@ pub record RuleRead (names : List (List ℕ)) (rules : List Rule) (count used n 
   pub fault-is : fault ≡ ruleFault names rules fs
   pub added : fault ≡ 0 → RuleTable (rules ++ ruleFrom names fs) (count + 1) (used + n) heads starts entries
 
--- a line leaves the tables with what it says added, or its fault
-abbrev pub LineRead : Content → List (List ℕ) → LineAnswer → List ℕ → List ℕ → List ℕ → List ℕ → List ℕ → Type 0
-LineRead d fs (Fine t) text lengths heads starts entries = (lineFault d fs ≡ 0) × Holds (withLine d fs) t text lengths heads starts entries
-LineRead d fs (Fault k) text lengths heads starts entries = (lineFault d fs ≡ k) × (k ≡ 0 → ⊥)
+-- the answer to a line: its fault, or where that is 0 the counts of the tables, which hold what the lines say with it
+abbrev pub LineRead : ℕ → Content → LineAnswer → List ℕ → List ℕ → List ℕ → List ℕ → List ℕ → Type 0
+LineRead fault d (Fine t) text lengths heads starts entries = (fault ≡ 0) × Holds d t text lengths heads starts entries
+LineRead fault d (Fault k) text lengths heads starts entries = (fault ≡ k) × (k ≡ 0 → ⊥)
+
+-- a line by its first word and its other fields
+abbrev pub WordRead : Content → Word → List (List ℕ) → LineAnswer → List ℕ → List ℕ → List ℕ → List ℕ → List ℕ → Type 0
+WordRead d w others = LineRead (faultOf d w others) (extended d w others)

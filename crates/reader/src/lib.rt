@@ -7,11 +7,12 @@ ghost use lib.ListN.{length, set};
 ghost use lib.Seq.{sets};
 ghost use Rattle.wfsx.specs.Program.{Rule};
 ghost use Rattle.scan.specs.Text.{split, rest, fields};
+ghost use Rattle.scan.specs.declared.Word.the-variants.{Name, Rule as RuleWord, End};
 ghost use Rattle.book.specs.Limits.{maxNames};
 ghost use Rattle.book.specs.Book.{clamp, namesIn, codeOf};
-ghost use Rattle.reader.specs.File.{Content, entryFrom, readLines, nothingYet, readFile, refused};
+ghost use Rattle.reader.specs.File.{Content, entryFrom, lineFault, withLine, readLines, nothingYet, readFile, accepted, refused};
 ghost use Rattle.reader.specs.Loading.{loadedOf};
-ghost use Rattle.reader.specs.Steps.{NameTable, RuleTable, Holds, formFault, knownFault, knownOf, NameRead, RuleRead, LineRead};
+ghost use Rattle.reader.specs.Steps.{NameTable, RuleTable, Holds, noCounts, formFault, ruleForm, knownFault, knownOf, NameRead, RuleRead, LineRead, WordRead};
 use book::Book;
 use book::Found;
 use scan::Form;
@@ -66,6 +67,14 @@ fn put_all(t: &mut [u8], at: usize, s: &[u8])
     }
 }
 
+// How much has been read.
+pub struct Counts {
+    pub names: usize,
+    pub rules: usize,
+    pub used: usize,
+    pub ended: bool,
+}
+
 // ---- a name's line
 
 // The fault of a NAME, or 0 where it was added to the table.
@@ -106,6 +115,21 @@ fn form_fault(line: &[u8], from: usize) -> u8
         p = e + 1;
     }
     0
+}
+
+// 5 where the head at `from` has a `~`, or is malformed, or a field behind it is malformed.
+fn rule_form(line: &[u8], from: usize) -> u8
+    requires { ⌜ from ≤ length (now line) ⌝ }
+    ensures { λ r. ⌜ r ≡ ruleForm (rest 44 (now (line .entry)) from) ⌝ }
+{
+    let e = scan::end_of(line, from, b',');
+    let Form::Literal { tildes, minuses: _ } = scan::form_of(&line[from..e]) else {
+        return 5;
+    };
+    if tildes != 0 {
+        return 5;
+    }
+    form_fault(line, e + 1)
 }
 
 // A field's name looked up: its literal, and how many `~` stand before it.
@@ -170,16 +194,10 @@ fn rule_line(
     requires { ⌜ (t .used ≤ 2048) × (n ≤ 16) × (from ≤ length (now line)) × (n + 1 ≡ length (rest 44 (now line) from)) ⌝ }
     ensures { λ r. ⌜ ((names : List (List ℕ)) (rules : List Rule) → NameTable names (t .names) (now (text .entry)) (now (lengths .entry)) → RuleTable rules (t .rules) (t .used) (now (heads .entry)) (now (starts .entry)) (now (entries .entry)) → RuleRead names rules (t .rules) (t .used) n (rest 44 (now (line .entry)) from) r (now (heads .exit)) (now (starts .exit)) (now (entries .exit))) ⌝ }
 {
+    if rule_form(line, from) != 0 {
+        return 5;
+    }
     let e = scan::end_of(line, from, b',');
-    let Form::Literal { tildes, minuses: _ } = scan::form_of(&line[from..e]) else {
-        return 5;
-    };
-    if tildes != 0 {
-        return 5;
-    }
-    if form_fault(line, e + 1) != 0 {
-        return 5;
-    }
     let Known::Entry { literal, tildes: _ } = known_of(text, lengths, t.names, &line[from..e])
     else {
         return 7;
@@ -202,18 +220,87 @@ fn rule_line(
 
 // ---- a line, the lines, the file
 
-// How much has been read.
-pub struct Counts {
-    pub names: usize,
-    pub rules: usize,
-    pub used: usize,
-    pub ended: bool,
-}
-
 // A line without a fault, with the counts behind it, or its fault.
 pub enum LineAnswer {
     Fine(Counts),
     Fault(u8),
+}
+
+// A line of n fields whose first field says that it declares a name; the others begin at `from`.
+fn with_name(
+    t: Counts,
+    text: &mut [u8],
+    lengths: &mut [u8],
+    line: &[u8],
+    from: usize,
+    n: usize,
+) -> LineAnswer
+    requires { ⌜ (t .names ≤ 128) × (from ≤ length (now line) + 1) × (n ≡ length (rest 44 (now line) from) + 1) ⌝ }
+    ensures { λ r. ⌜ ((d : Content) (heads starts entries : List ℕ) → Holds d t (now (text .entry)) (now (lengths .entry)) heads starts entries → d .ended ≡ false → WordRead d Name (rest 44 (now (line .entry)) from) r (now (text .exit)) (now (lengths .exit)) heads starts entries) ⌝ }
+{
+    if n != 2 {
+        return LineAnswer::Fault(4);
+    }
+    let e = scan::end_of(line, from, b',');
+    let fault = name_line(t.names, text, lengths, &line[from..e]);
+    if fault != 0 {
+        return LineAnswer::Fault(fault);
+    }
+    LineAnswer::Fine(Counts {
+        names: t.names + 1,
+        rules: t.rules,
+        used: t.used,
+        ended: false,
+    })
+}
+
+// Likewise where it gives a rule.
+fn with_rule(
+    t: Counts,
+    text: &[u8],
+    lengths: &[u8],
+    heads: &mut [u16],
+    starts: &mut [u16],
+    entries: &mut [u16],
+    line: &[u8],
+    from: usize,
+    n: usize,
+) -> LineAnswer
+    requires { ⌜ (t .rules ≤ 512) × (t .used ≤ 2048) × (from ≤ length (now line) + 1) × (n ≡ length (rest 44 (now line) from) + 1) ⌝ }
+    ensures { λ r. ⌜ ((d : Content) → Holds d t (now (text .entry)) (now (lengths .entry)) (now (heads .entry)) (now (starts .entry)) (now (entries .entry)) → d .ended ≡ false → WordRead d RuleWord (rest 44 (now (line .entry)) from) r (now (text .entry)) (now (lengths .entry)) (now (heads .exit)) (now (starts .exit)) (now (entries .exit))) ⌝ }
+{
+    if n < 2 {
+        return LineAnswer::Fault(4);
+    }
+    if 18 < n {
+        return LineAnswer::Fault(4);
+    }
+    let body = n - 2;
+    let fault = rule_line(t, text, lengths, heads, starts, entries, line, from, body);
+    if fault != 0 {
+        return LineAnswer::Fault(fault);
+    }
+    LineAnswer::Fine(Counts {
+        names: t.names,
+        rules: t.rules + 1,
+        used: t.used + body,
+        ended: false,
+    })
+}
+
+// Likewise where it is the last; what its other fields say decides nothing.
+fn with_end(t: Counts, n: usize) -> LineAnswer
+    ensures { λ r. ⌜ ((d : Content) (text lengths heads starts entries : List ℕ) (others : List (List ℕ)) → Holds d t text lengths heads starts entries → d .ended ≡ false → n ≡ length others + 1 → WordRead d End others r text lengths heads starts entries) ⌝ }
+{
+    if n != 1 {
+        return LineAnswer::Fault(4);
+    }
+    LineAnswer::Fine(Counts {
+        names: t.names,
+        rules: t.rules,
+        used: t.used,
+        ended: true,
+    })
 }
 
 fn judge(
@@ -226,7 +313,7 @@ fn judge(
     line: &[u8],
 ) -> LineAnswer
     requires { ⌜ (t .names ≤ 128) × (t .rules ≤ 512) × (t .used ≤ 2048) ⌝ }
-    ensures { λ r. ⌜ ((d : Content) → Holds d t (now (text .entry)) (now (lengths .entry)) (now (heads .entry)) (now (starts .entry)) (now (entries .entry)) → LineRead d (fields (now (line .entry))) r (now (text .exit)) (now (lengths .exit)) (now (heads .exit)) (now (starts .exit)) (now (entries .exit))) ⌝ }
+    ensures { λ r. ⌜ ((d : Content) → Holds d t (now (text .entry)) (now (lengths .entry)) (now (heads .entry)) (now (starts .entry)) (now (entries .entry)) → LineRead (lineFault d (fields (now (line .entry)))) (withLine d (fields (now (line .entry)))) r (now (text .exit)) (now (lengths .exit)) (now (heads .exit)) (now (starts .exit)) (now (entries .exit))) ⌝ }
 {
     if t.ended {
         return LineAnswer::Fault(9);
@@ -235,51 +322,54 @@ fn judge(
     let n = scan::pieces(line, b',');
     match scan::word_of(&line[0..e]) {
         Word::Name => {
-            if n != 2 {
-                return LineAnswer::Fault(4);
-            }
-            let f = scan::end_of(line, e + 1, b',');
-            let v = name_line(t.names, text, lengths, &line[e + 1..f]);
-            if v != 0 {
-                return LineAnswer::Fault(v);
-            }
-            LineAnswer::Fine(Counts {
-                names: t.names + 1,
-                rules: t.rules,
-                used: t.used,
-                ended: false,
-            })
+            return with_name(t, text, lengths, line, e + 1, n);
         }
         Word::Rule => {
-            if n < 2 {
-                return LineAnswer::Fault(4);
-            }
-            if 18 < n {
-                return LineAnswer::Fault(4);
-            }
-            let v = rule_line(t, text, lengths, heads, starts, entries, line, e + 1, n - 2);
-            if v != 0 {
-                return LineAnswer::Fault(v);
-            }
-            LineAnswer::Fine(Counts {
-                names: t.names,
-                rules: t.rules + 1,
-                used: t.used + (n - 2),
-                ended: false,
-            })
+            return with_rule(t, text, lengths, heads, starts, entries, line, e + 1, n);
         }
         Word::End => {
-            if n != 1 {
-                return LineAnswer::Fault(4);
-            }
-            LineAnswer::Fine(Counts {
-                names: t.names,
-                rules: t.rules,
-                used: t.used,
-                ended: true,
-            })
+            return with_end(t, n);
         }
-        Word::Unknown => LineAnswer::Fault(4),
+        Word::Unknown => {
+            return LineAnswer::Fault(4);
+        }
+    }
+}
+
+// Nothing has been read.
+fn none_yet() -> Counts
+    ensures { λ r. ⌜ r ≡ noCounts ⌝ }
+{
+    Counts {
+        names: 0,
+        rules: 0,
+        used: 0,
+        ended: false,
+    }
+}
+
+// The tables of a file that was read to its end are its book.
+fn accepted_with(
+    t: Counts,
+    text: [u8; 2048],
+    lengths: [u8; 128],
+    heads: [u16; 512],
+    starts: [u16; 513],
+    entries: [u16; 2048],
+) -> Loaded
+    ensures { λ r. ⌜ ((d : Content) → Holds d t text lengths heads starts entries → r ≡ loadedOf (accepted (d .names) (d .rules))) ⌝ }
+{
+    Loaded {
+        answer: Answer::Accepted,
+        book: Book {
+            names: t.names,
+            rules: t.rules,
+            text,
+            lengths,
+            heads,
+            starts,
+            entries,
+        },
     }
 }
 
@@ -292,12 +382,7 @@ fn read_lines(b: &[u8]) -> Loaded
     let mut heads = [0u16; 512];
     let mut starts = [0u16; 513];
     let mut entries = [0u16; 2048];
-    let mut t = Counts {
-        names: 0,
-        rules: 0,
-        used: 0,
-        ended: false,
-    };
+    let mut t = none_yet();
     let mut at = 0;
     let mut number = 1;
     while at <= b.len() {
@@ -324,18 +409,7 @@ fn read_lines(b: &[u8]) -> Loaded
     if !t.ended {
         return refusal(9, number);
     }
-    Loaded {
-        answer: Answer::Accepted,
-        book: Book {
-            names: t.names,
-            rules: t.rules,
-            text,
-            lengths,
-            heads,
-            starts,
-            entries,
-        },
-    }
+    accepted_with(t, text, lengths, heads, starts, entries)
 }
 
 pub fn read(file: &[u8]) -> Loaded

@@ -131,15 +131,8 @@ fn tu_node<'a>(
     if litset::contains(path, a) {
         return false;
     }
-    let leaf = !t_node(
-        heads,
-        starts,
-        entries,
-        count,
-        facts,
-        litset::complement(a),
-        above,
-    );
+    let other = litset::complement(a);
+    let leaf = !t_node(heads, starts, entries, count, facts, other, above);
     if leaf {
         if litset::contains(facts, a) {
             return true;

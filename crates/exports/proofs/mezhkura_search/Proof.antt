@@ -1,6 +1,6 @@
 -- `mezhkura_search`: the flag and the number name the question, and the numbers are those of the desk's answer.
 use borrow.Author.Needs.{needs}
-use mathlib.Core.Path.{_≡_, sym, ap₂, subst}
+use mathlib.Core.Path.{subst}
 use mathlib.Core.Bool.{Bool}
 use Rattle.search.specs.Questions.{treeOf, questionOf}
 use Rattle.search.specs.declared.Tree.{Tree}

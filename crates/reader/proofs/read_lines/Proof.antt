@@ -1,27 +1,18 @@
 -- `read_lines`: the lines passed have no fault and what they say stands in the tables, so the lines that are left decide.
 use borrow.Author.Needs.{needs}
-use mathlib.Core.Path.{_≡_, sym, ap, _∙_}
+use mathlib.Core.Path.{sym, ap, _∙_, subst}
 use mathlib.Core.Bool.{Bool, cond}
-use mathlib.Core.List.{List}
-use Prim.Native.Nat.{ℕ, _+_, _-_, _≤_}
-use lib.ListN.{length, take, drop}
+use Prim.Native.Nat.{_+_, _-_, _≤_}
+use lib.ListN.{length, take, drop, replicate}
 use borrow.Author.Tests.{not-true, not-false}
 use Rattle.scan.specs.Text.{fields}
-use Rattle.reader.specs.File.{withLine, accepted, refused}
+use Rattle.reader.specs.File.{lineFault, withLine, accepted, refused}
 use Rattle.reader.specs.Loading.{loadedOf}
-use Rattle.wfsx.specs.Program.{Rule}
-use Rattle.book.specs.Book.{bookOf}
-use Rattle.book.specs.declared.Book.{Book}
-use Rattle.reader.specs.declared.Answer.the-variants.{Accepted}
-use Rattle.reader.specs.declared.Loaded.{Loaded}
-use Rattle.reader.proofs.Judgement.{lines-go, lines-stop, lines-end, ReadTo, read-none, book-held, text-size, lengths-size, heads-size, starts-size, entries-size, was-fine, was-fault}
+use Rattle.reader.specs.declared.Counts.{Counts}
+use Rattle.reader.proofs.Judgement.{lines-go, lines-stop, lines-end, ReadTo, read-none, text-size, lengths-size, heads-size, starts-size, entries-size, was-fine, was-fault}
 use native.Mathlib.Omega.{arith}
 use Rattle.reader.proofs.read_lines.Statement.{statement}
 use Rattle.reader.proofs.read_lines.Tie as tie
-
-whole : (names : List (List ℕ)) (rules : List Rule) (book : Book) → book ≡ bookOf names rules → record { answer = Accepted; book = book } ≡ loadedOf (accepted names rules)
-unfolding loadedOf
-whole names rules book e = ap {B = Loaded} (λ (x : Book). record { answer = Accepted; book = x }) e
 
 abbrev Inv-loop : tie.InvT-loop
 Inv-loop b text₀ lengths₀ heads₀ starts₀ entries₀ t₀ at₀ number₀ text lengths heads starts entries t at number =
@@ -30,8 +21,11 @@ Inv-loop b text₀ lengths₀ heads₀ starts₀ entries₀ t₀ at₀ number₀
 abbrev μ-loop : tie.MeasureT-loop
 μ-loop b text₀ lengths₀ heads₀ starts₀ entries₀ t₀ at₀ number₀ text lengths heads starts entries t at number = length b + 1 - at
 
+none-yet-requires : tie.Need-none-yet-requires Inv-loop μ-loop
+none-yet-requires c κs = search needs
+
 loop-holds : tie.Need-loop-holds Inv-loop μ-loop
-loop-holds c = (search needs, search needs, read-none (c .before .args .b .now))
+loop-holds c = (search needs, search needs, subst (λ (t : Counts). ReadTo (c .before .before .args .b .now) t 0 1 (replicate 2048 0) (replicate 128 0) (replicate 512 0) (replicate 513 0) (replicate 2048 0)) (sym (c .none-yet .ensures)) (read-none (c .before .before .args .b .now)))
 
 end-of-requires : tie.Need-end-of-requires Inv-loop μ-loop
 end-of-requires c κs = search needs
@@ -76,11 +70,12 @@ refusal-requires c κs = search needs
 
 returns : tie.Need-returns Inv-loop μ-loop
 returns c =
-    let b = c .before .before .before .before .before .before .before .before .before .before .before .before .before .before .before .before .before .before .before .before .args .b .now in
+    let b = c .before .before .before .before .before .before .before .before .before .before .before .before .before .before .before .before .before .before .before .before .before .args .b .now in
     let was = c .before .before .before .before .before .before .before .before .before .before .before .before .before .before .before .before .before .before .loop in
     let read = was .inv .2 in
     let d = c .before .before .before .before .before .before .before .before .before .before .before .before .before .before .before .before in
-    let told = was-fault (read .content) _ _ _ _ _ _ _ (c .before .before .before .before .before .before .before .before .before .judge .ensures (read .content) (read .held)) (c .before .before .k .given .0 .0) (c .before .before .k .given .1) in
+    let line = fields (take (d .end-of .result - was .at) (drop (was .at) b)) in
+    let told = was-fault (lineFault (read .content) line) (withLine (read .content) line) _ _ _ _ _ _ (c .before .before .before .before .before .before .before .before .before .judge .ensures (read .content) (read .held)) (c .before .before .k .given .0 .0) (c .before .before .k .given .1) in
     c .refusal .ensures
     ∙ ap loadedOf (sym (lines-stop (read .content) (was .number) b (was .at) (d .end-of .result) (d .before .loop-test .taken) (d .end-of .ensures .0) _ (told .0) (told .1)) ∙ read .same)
 
@@ -91,21 +86,25 @@ add-number : tie.Need-add-number Inv-loop μ-loop
 add-number c = omega arith
 
 loop-less : tie.Need-loop-less Inv-loop μ-loop
-loop-less c = let within = c .before .before .before .before .before .before .before .before .before .before .before .before .before .before .before .end-of .ensures .2 (c .before .before .before .before .before .before .before .before .before .before .before .before .before .before .before .before .loop-test .taken) in let up = c .before .before .before .before .before .before .before .before .before .before .before .before .before .before .before .end-of .ensures .1 in omega arith
+loop-less c =
+    let within = c .before .before .before .before .before .before .before .before .before .before .before .before .before .before .before .end-of .ensures .2 (c .before .before .before .before .before .before .before .before .before .before .before .before .before .before .before .before .loop-test .taken) in
+    let up = c .before .before .before .before .before .before .before .before .before .before .before .before .before .before .before .end-of .ensures .1 in
+    omega arith
 
 loop-again : tie.Need-loop-again Inv-loop μ-loop
 loop-again c =
-    let b = c .before .before .before .before .before .before .before .before .before .before .before .before .before .before .before .before .before .before .before .args .b .now in
+    let b = c .before .before .before .before .before .before .before .before .before .before .before .before .before .before .before .before .before .before .before .before .args .b .now in
     let was = c .before .before .before .before .before .before .before .before .before .before .before .before .before .before .before .before .before .loop in
     let read = was .inv .2 in
     let d = c .before .before .before .before .before .before .before .before .before .before .before .before .before .before .before in
+    let line = fields (take (d .end-of .result - was .at) (drop (was .at) b)) in
     let within = d .end-of .ensures .2 (d .before .loop-test .taken) in
     let up = d .end-of .ensures .1 in
-    let told = was-fine (read .content) _ _ _ _ _ _ _ (c .before .before .before .before .before .before .before .before .judge .ensures (read .content) (read .held)) (c .before .u .given .0 .0) (c .before .u .given .1) in (
+    let told = was-fine (lineFault (read .content) line) (withLine (read .content) line) _ _ _ _ _ _ (c .before .before .before .before .before .before .before .before .judge .ensures (read .content) (read .held)) (c .before .u .given .0 .0) (c .before .u .given .1) in (
       omega arith,
       omega arith,
       record {
-        content = withLine (read .content) (fields (take (d .end-of .result - was .at) (drop (was .at) b)));
+        content = withLine (read .content) line;
         held = told .1;
         same = sym (lines-go (read .content) (was .number) b (was .at) (d .end-of .result) (d .before .loop-test .taken) (d .end-of .ensures .0) (told .0)) ∙ read .same;
       },
@@ -120,15 +119,18 @@ returns-2 c =
     let read = was .inv .2 in
     let none = sym (read .held .ended-is) ∙ not-true (was .t .ended) (c .before .if1 .taken) in
     c .refusal2 .ensures
-    ∙ ap loadedOf (sym (lines-end (read .content) (was .number) (c .before .before .before .before .before .before .args .b .now) (was .at) (c .before .before .before .loop-test .left) ∙ ap (λ (x : Bool). cond x (accepted (read .content .names) (read .content .rules)) (refused 9 (was .number))) none) ∙ read .same)
+    ∙ ap loadedOf (sym (lines-end (read .content) (was .number) (c .before .before .before .before .before .before .before .args .b .now) (was .at) (c .before .before .before .loop-test .left) ∙ ap (λ (x : Bool). cond x (accepted (read .content .names) (read .content .rules)) (refused 9 (was .number))) none) ∙ read .same)
+
+accepted-with-requires : tie.Need-accepted-with-requires Inv-loop μ-loop
+accepted-with-requires c κs = search needs
 
 returns-3 : tie.Need-returns-3 Inv-loop μ-loop
 returns-3 c =
-    let was = c .before .before .before .loop in
+    let was = c .before .before .before .before .loop in
     let read = was .inv .2 in
-    let came = sym (read .held .ended-is) ∙ not-false (was .t .ended) (c .if1 .left) in
-    whole (read .content .names) (read .content .rules) _ (book-held (read .held))
-    ∙ ap loadedOf (sym (lines-end (read .content) (was .number) (c .before .before .before .before .before .args .b .now) (was .at) (c .before .before .loop-test .left) ∙ ap (λ (x : Bool). cond x (accepted (read .content .names) (read .content .rules)) (refused 9 (was .number))) came) ∙ read .same)
+    let came = sym (read .held .ended-is) ∙ not-false (was .t .ended) (c .before .if1 .left) in
+    c .accepted-with .ensures (read .content) (read .held)
+    ∙ ap loadedOf (sym (lines-end (read .content) (was .number) (c .before .before .before .before .before .before .before .args .b .now) (was .at) (c .before .before .before .loop-test .left) ∙ ap (λ (x : Bool). cond x (accepted (read .content .names) (read .content .rules)) (refused 9 (was .number))) came) ∙ read .same)
 
 pub read-lines-spec : {M : Type 1} → statement M
 read-lines-spec =
@@ -136,6 +138,7 @@ read-lines-spec =
     (tie.spec
     Inv-loop
     μ-loop
+    none-yet-requires
     loop-holds
     end-of-requires
     slice-aggregate-judge
@@ -157,4 +160,5 @@ read-lines-spec =
     loop-again
     refusal-requires-2
     returns-2
+    accepted-with-requires
     returns-3)
