@@ -72,9 +72,13 @@ rulesIn heads starts entries count = rows (ruleAt heads starts entries) 0 count
 abbrev pub rulesOf : Book → List Rule
 rulesOf b = rulesIn (b .heads) (b .starts) (b .entries) (clamp maxRules (b .rules))
 
+-- the program of some rules and the facts in a set
+abbrev pub program : List Rule → Set → Program
+program rules facts = withFacts rules (members capacity facts)
+
 -- the program of a book and the facts put in
 unfoldable pub programOf : Book → Set → Program
-programOf b facts = withFacts (rulesOf b) (members capacity facts)
+programOf b facts = program (rulesOf b) facts
 
 -- ---- the tables that hold given names and rules, with zeros behind them
 

@@ -6,11 +6,9 @@ use native.Mathlib.Omega.{arith}
 use lib.Dec.{eqb, ltb}
 use lib.ListN.{length}
 use borrow.Author.Tests.{eq-eqb, ne-eqb, ltb-true, lt-ltb, le-ltb}
-use Rattle.wfsx.specs.Sets.{members}
-use Rattle.wfsx.specs.Program.{withFacts}
 use Rattle.litset.specs.Words.{capacity, setOf}
 use Rattle.book.specs.Limits.{maxNames}
-use Rattle.book.specs.Book.{rows, clamp, nameAt, namesOf, rulesOf, programOf}
+use Rattle.book.specs.Book.{rows, clamp, nameAt, namesOf, rulesOf, program, programOf}
 use Rattle.book.specs.declared.Book.{Book}
 use Rattle.book.proofs.Counts.{clamp-most}
 use Rattle.desk.specs.Listed.{BookState, unloaded, loaded-with, noneLoaded, inBook, itsNames, itsRules, programIn}
@@ -58,7 +56,7 @@ module _ (l : Lesson) where
   program-is e = go (eqb (l .loaded) 0) e
     where
       go : (t : Bool) → noneLoaded (cond t unloaded (loaded-with (namesOf (l .book)) (rulesOf (l .book)))) ≡ false
-          → withFacts (rulesOf (l .book)) (members capacity (setOf (l .facts .words))) ≡ withFacts (itsRules (cond t unloaded (loaded-with (namesOf (l .book)) (rulesOf (l .book))))) (members capacity (setOf (l .facts .words)))
+          → program (rulesOf (l .book)) (setOf (l .facts .words)) ≡ program (itsRules (cond t unloaded (loaded-with (namesOf (l .book)) (rulesOf (l .book))))) (setOf (l .facts .words))
       go true h = absurd (true≢false h)
       go false h = refl
 

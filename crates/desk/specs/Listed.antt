@@ -6,13 +6,13 @@ use mathlib.Core.List.{List, [], _++_}
 use Prim.Native.Nat.{ℕ, _*_}
 use lib.Dec.{leb, ltb}
 use lib.ListN.{length, drop}
-use Rattle.wfsx.specs.Sets.{Set, ∅, members}
-use Rattle.wfsx.specs.Program.{Entry, Rule, Program, withFacts}
+use Rattle.wfsx.specs.Sets.{Set, ∅}
+use Rattle.wfsx.specs.Program.{Entry, Rule, Program}
 use Rattle.wfsx.specs.Model.{Contradictory, verdict}
 use Rattle.wfsx.specs.Model as wfsx
 use Rattle.wfsx.specs.Trees.{Tree, answer}
+use Rattle.book.specs.Book.{program}
 use Rattle.lister.specs.Listing.{listingOf}
-use Rattle.litset.specs.Words.{capacity}
 
 -- no book, or the names and rules of one
 pub data BookState : Type 0 where
@@ -34,7 +34,7 @@ itsRules (loaded-with names rules) = rules
 
 -- the book's rules, and for each fact put in a rule with that head and no body
 unfoldable pub programIn : Listed → Program
-programIn d = withFacts (itsRules (d .book)) (members capacity (d .facts))
+programIn d = program (itsRules (d .book)) (d .facts)
 
 -- ---- the conditions that are read over a book and a set
 

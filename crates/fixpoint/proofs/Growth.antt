@@ -14,7 +14,8 @@ use Rattle.wfsx.proofs.Supported.{supported-seminormal}
 use Rattle.wfsx.proofs.Facts.{supported-facts}
 use Rattle.wfsx.proofs.Operators.{Γ-fixed, Γ-inside, I-grows, I⊆M, M-least, N-is}
 use Rattle.litset.specs.Words.{capacity}
-use Rattle.fixpoint.specs.Pass.{version, shut, pass, program}
+use Rattle.book.specs.Book.{program}
+use Rattle.fixpoint.specs.Pass.{version, shut, pass}
 use Rattle.fixpoint.proofs.Pass.{Full, pass-grows, pass-inside, pass-still}
 use Rattle.fixpoint.proofs.Room.{room, room-falls}
 

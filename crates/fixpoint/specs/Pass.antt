@@ -3,10 +3,9 @@ use mathlib.Core.Bool.{Bool, not, cond, _&&_}
 use mathlib.Core.List.{List, [], _∷_}
 use Prim.Native.Nat.{ℕ, _≤_, _<_}
 use lib.ListN.{length}
-use Rattle.wfsx.specs.Sets.{Set, add, members}
-use Rattle.wfsx.specs.Program.{compl, Rule, Program, seminormal, withFacts}
+use Rattle.wfsx.specs.Sets.{Set, add}
+use Rattle.wfsx.specs.Program.{compl, Rule, Program, seminormal}
 use Rattle.wfsx.specs.Model.{holds, every}
-use Rattle.litset.specs.Words.{capacity}
 
 -- The program itself, or its seminormal version (001, definition 1): Γ of the first is Γ, of the second Γs.
 abbrev pub version : Bool → Program → Program
@@ -24,10 +23,6 @@ fire B S r X = cond (not (B (r .head)) && every (holds X S) (r .body)) (add (r .
 unfoldable pub pass : List Rule → Set → Set → Set → Set
 pass [] B S X = X
 pass (r ∷ P) B S X = pass P B S (fire B S r X)
-
--- the program of some rules and the facts in a set
-abbrev pub program : List Rule → Set → Program
-program rules facts = withFacts rules (members capacity facts)
 
 -- the tables of heads and starts have that many rules
 abbrev pub InTables : List ℕ → List ℕ → ℕ → Type 0

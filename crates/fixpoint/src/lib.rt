@@ -6,8 +6,8 @@ ghost use mathlib.Core.Path.{_≡_};
 ghost use Rattle.wfsx.specs.Sets.{_∖_};
 ghost use Rattle.wfsx.specs.Model.{holds, Γ};
 ghost use Rattle.litset.specs.Words.{setOf};
-ghost use Rattle.book.specs.Book.{entryOf, rulesIn, programOf};
-ghost use Rattle.fixpoint.specs.Pass.{InTables, shut, pass, program, version};
+ghost use Rattle.book.specs.Book.{entryOf, rulesIn, program, programOf};
+ghost use Rattle.fixpoint.specs.Pass.{InTables, shut, pass, version};
 ghost use Rattle.fixpoint.specs.Result.{ClashOf, HalvesOf, ModelOf, verdictIs, verdictIn};
 
 // The lowest-numbered name that has both literals in a set, if any.

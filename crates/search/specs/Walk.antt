@@ -4,11 +4,11 @@ use mathlib.Core.Bool.{Bool}
 use mathlib.Core.List.{List}
 use Prim.Native.Nat.{ℕ, _≤_, _<_}
 use lib.ListN.{length}
-use Rattle.wfsx.specs.Sets.{Set, ∅, members}
-use Rattle.wfsx.specs.Program.{Entry, Program, withFacts}
+use Rattle.wfsx.specs.Sets.{Set, ∅}
+use Rattle.wfsx.specs.Program.{Entry, Program}
 use Rattle.wfsx.specs.Trees.{Tree, T, TU, child, tree}
-use Rattle.litset.specs.Words.{nWords, capacity, setOf}
-use Rattle.book.specs.Book.{rulesIn}
+use Rattle.litset.specs.Words.{nWords, setOf}
+use Rattle.book.specs.Book.{rulesIn, program}
 
 -- The tables have room for as many rules as are counted; the words are those of a `LitSet`.
 pub record Lent (heads starts : List ℕ) (count : ℕ) (facts : List ℕ) : Type 0 where
@@ -18,7 +18,7 @@ pub record Lent (heads starts : List ℕ) (count : ℕ) (facts : List ℕ) : Typ
 
 -- the program of the tables' rules and the facts put in
 unfoldable pub programIn : List ℕ → List ℕ → List ℕ → ℕ → List ℕ → Program
-programIn heads starts entries count facts = withFacts (rulesIn heads starts entries count) (members capacity (setOf facts))
+programIn heads starts entries count facts = program (rulesIn heads starts entries count) (setOf facts)
 
 -- Whether a child holds. A TU-tree's local path is `path`, and its global T-ancestors are `above`. In a T-tree both prune alike, and all of
 -- them stand in `above`.

@@ -7,8 +7,7 @@ use lib.ListN.{length}
 use Rattle.wfsx.specs.Model.{Γs}
 use Rattle.litset.specs.Words.{nWords, setOf}
 use Rattle.litset.proofs.Words.{member-room}
-use Rattle.book.specs.Book.{rulesIn}
-use Rattle.fixpoint.specs.Pass.{program}
+use Rattle.book.specs.Book.{rulesIn, program}
 use Rattle.fixpoint.proofs.Room.{room}
 use Rattle.fixpoint.proofs.Growth.{Round, round-start, round-more, round-falls, round-end}
 use Rattle.fixpoint.proofs.settle.Statement.{statement}
