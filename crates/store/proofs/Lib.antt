@@ -1,0 +1,2 @@
+-- Laws of a run of stores.
+pub mod Stored
