@@ -2,22 +2,15 @@
 -- with.
 use mathlib.Core.Path.{_≡_, refl, sym, ap, _∙_}
 use mathlib.Core.List.{List, [], _∷_, _++_}
-use Prim.Native.Nat.{ℕ, suc, _+_, _≤_, _<_}
+use Prim.Native.Nat.{ℕ, _+_, _≤_}
 use native.Mathlib.Nat.{add-zero, zero-add}
 use native.Mathlib.Omega.{arith}
-use lib.ListN.{length, getD, take, drop, set, length-append}
-use lib.Seq.{sets, sets-eq, length-sets, take-all, take-suc}
-use native.Mathlib.Numerals.{add-one}
-use Rattle.lister.specs.Listing.{field}
+use lib.ListN.{length, drop, set, length-append}
+use lib.Seq.{sets, sets-eq, length-sets}
+use Rattle.store.proofs.Stored.{sets-append}
 use Rattle.lister.specs.Steps.{Room, Put}
 
-pub sets-append : (t : List ℕ) (at : ℕ) (a b : List ℕ) → sets (sets t at a) (at + length a) b ≡ sets t at (a ++ b)
-sets-append t at [] b = ap (λ (k : ℕ). sets t k b) (add-zero at)
-sets-append t at (x ∷ a) b =
-    let next : at + suc (length a) ≡ suc at + length a = omega arith in
-    ap (λ (k : ℕ). sets (sets (set t at x) (suc at) a) k b) next ∙ sets-append (set t at x) (suc at) a b
-
-pub put-none : (at : ℕ) (t : List ℕ) → Put [] at t t at
+put-none : (at : ℕ) (t : List ℕ) → Put [] at t t at
 put-none at t = record { place = sym (add-zero at); stored = refl }
 
 pub put-then : {a b t u w : List ℕ} {at p q : ℕ} → Put a at t u p → Put b p u w q → Put (a ++ b) at t w q
@@ -34,20 +27,11 @@ put-length {a} {t} {u} {at} {p} x = ap length (x .stored) ∙ length-sets t at a
 pub put-whole : {a t u : List ℕ} {p : ℕ} → Put a 0 t u p → length a ≤ length t → u ≡ a ++ drop (length a) t
 put-whole {a} {t} {u} {p} x h = x .stored ∙ sets-eq a t 0 (omega arith) ∙ ap (λ (k : ℕ). a ++ drop k t) (zero-add (length a))
 
--- one byte
-pub put-byte : {t u : List ℕ} {at : ℕ} {v : ℕ} → u ≡ set t at v → Put (v ∷ []) at t u (at + 1)
-put-byte e = record { place = refl; stored = e }
+pub put-run : (a : List ℕ) {t u : List ℕ} {at : ℕ} → u ≡ sets t at a → Put a at t u (at + length a)
+put-run a e = record { place = refl; stored = e }
 
--- ---- a run of bytes, for a loop that has come to byte i
-
-module _ (s : List ℕ) (i : ℕ) {t u w : List ℕ} {at : ℕ} (passed : Put (take i s) at t u (at + i)) where
-  pub put-next : i < length s → w ≡ set u (at + i) (getD s i 0) → Put (take (i + 1) s) at t w (at + (i + 1))
-  put-next h e =
-      let next : at + (i + 1) ≡ at + i + 1 = omega arith in
-      rw (next, add-one i, take-suc s i 0 h) (put-then passed (put-byte e))
-
-  pub put-end : length s ≤ i → (v : ℕ) → w ≡ set u (at + i) v → Put (field s v) at t w (at + i + 1)
-  put-end h v e = put-then (rw (take-all i s h) at passed) (put-byte e)
+pub put-byte : {t u : List ℕ} {at v : ℕ} → u ≡ set t at v → Put (v ∷ []) at t u (at + 1)
+put-byte {v = v} e = put-run (v ∷ []) e
 
 -- ---- room for a run is room for its first part, and for the rest behind that
 

@@ -2,7 +2,7 @@
 ghost use mathlib.Core.Path.{_≡_};
 ghost use mathlib.Core.List.{[]};
 ghost use Prim.Native.Nat.{_<_, _≤_};
-ghost use lib.ListN.{getD, set};
+ghost use lib.ListN.{getD};
 ghost use Rattle.book.specs.Limits.{maxNames};
 ghost use Rattle.book.specs.Book.{nameAt, namesIn};
 ghost use Rattle.lister.specs.Listing.{verdictWord, digits, field, nameLine, nameLines, verdictsBy, listingIn, refusalOf};
@@ -22,26 +22,15 @@ pub enum Written {
 
 // ---- fields: each function writes from `at` on and answers the next place; past the end of the buffer nothing is stored
 
-fn put8(t: &mut [u8], i: usize, v: u8)
-    ensures { λ r. ⌜ now (t .exit) ≡ set (now (t .entry)) i v ⌝ }
-{
-    if i < t.len() {
-        t[i] = v;
-    }
-}
-
 // The bytes of s, and the byte `stop` behind them.
 fn put_word(t: &mut [u8], at: usize, s: &[u8], stop: u8) -> usize
     requires { ⌜ Room (field (now s) stop) at ⌝ }
     ensures { λ r. ⌜ Put (field (now (s .entry)) stop) at (now (t .entry)) (now (t .exit)) r ⌝ }
 {
-    let mut i = 0;
-    while i < s.len() {
-        put8(t, at + i, s[i]);
-        i += 1;
-    }
-    put8(t, at + i, stop);
-    at + i + 1
+    store::put_all(t, at, s);
+    let end = at + s.len();
+    store::put8(t, end, stop);
+    end + 1
 }
 
 // A number in decimal digits: those of its tenth, and the last.
@@ -50,11 +39,11 @@ fn put_digits(t: &mut [u8], at: usize, n: usize) -> usize
     ensures { λ r. ⌜ Put (digits n) at (now (t .entry)) (now (t .exit)) r ⌝ }
 {
     if n < 10 {
-        put8(t, at, 48 + n as u8);
+        store::put8(t, at, 48 + n as u8);
         return at + 1;
     }
     let p = put_digits(t, at, n / 10);
-    put8(t, p, 48 + (n % 10) as u8);
+    store::put8(t, p, 48 + (n % 10) as u8);
     p + 1
 }
 
@@ -64,7 +53,7 @@ fn put_number(t: &mut [u8], at: usize, n: usize, stop: u8) -> usize
     ensures { λ r. ⌜ Put (field (digits n) stop) at (now (t .entry)) (now (t .exit)) r ⌝ }
 {
     let p = put_digits(t, at, n);
-    put8(t, p, stop);
+    store::put8(t, p, stop);
     p + 1
 }
 

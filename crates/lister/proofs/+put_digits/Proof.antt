@@ -9,7 +9,7 @@ use borrow.Fn.PlainCycle.{Measures, is, falls, and}
 use Rattle.lister.proofs.put_digits.Reads as put-digits
 use Rattle.lister.proofs.put_digits.Kinds as put-digits-kinds
 use Rattle.lister.proofs.+put_digits.Lts-put_digits as put-digits-lts
-use Rattle.lister.proofs.put8.Reads as put8-reads
+use Rattle.store.proofs.put8.Reads as put8-reads
 use Rattle.lister.proofs.+put_digits.{statement}
 use Rattle.lister.proofs.+put_digits.Tie.{close}
 
