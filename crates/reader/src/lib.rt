@@ -3,7 +3,7 @@ ghost use mathlib.Core.Path.{_≡_};
 ghost use mathlib.Core.Bool.{true, false};
 ghost use mathlib.Core.List.{List, map};
 ghost use Prim.Native.Nat.{ℕ, _+_, _≤_};
-ghost use lib.ListN.{length, set};
+ghost use lib.ListN.{length};
 ghost use lib.Seq.{sets};
 ghost use Rattle.wfsx.specs.Program.{Rule};
 ghost use Rattle.scan.specs.Text.{split, rest, fields};
@@ -38,35 +38,6 @@ fn refusal(number: u8, line: usize) -> Loaded
     }
 }
 
-// ---- stores; past the end nothing changes
-
-fn put8(t: &mut [u8], i: usize, v: u8)
-    ensures { λ r. ⌜ now (t .exit) ≡ set (now (t .entry)) i v ⌝ }
-{
-    if i < t.len() {
-        t[i] = v;
-    }
-}
-
-fn put16(t: &mut [u16], i: usize, v: u16)
-    ensures { λ r. ⌜ now (t .exit) ≡ set (now (t .entry)) i v ⌝ }
-{
-    if i < t.len() {
-        t[i] = v;
-    }
-}
-
-fn put_all(t: &mut [u8], at: usize, s: &[u8])
-    requires { ⌜ at + length (now s) ≤ 65536 ⌝ }
-    ensures { λ r. ⌜ now (t .exit) ≡ sets (now (t .entry)) at (now (s .entry)) ⌝ }
-{
-    let mut i = 0;
-    while i < s.len() {
-        put8(t, at + i, s[i]);
-        i += 1;
-    }
-}
-
 // How much has been read.
 pub struct Counts {
     pub names: usize,
@@ -90,8 +61,8 @@ fn name_line(count: usize, text: &mut [u8], lengths: &mut [u8], name: &[u8]) -> 
     if 128 <= count {
         return 8;
     }
-    put_all(text, 16 * count, name);
-    put8(lengths, count, name.len() as u8);
+    store::put_all(text, 16 * count, name);
+    store::put8(lengths, count, name.len() as u8);
     0
 }
 
@@ -172,7 +143,7 @@ fn body_entries(
         let Known::Entry { literal, tildes } = known_of(text, lengths, count, &line[p..e]) else {
             return 7;
         };
-        put16(entries, k, (2 * literal + tildes) as u16);
+        store::put16(entries, k, (2 * literal + tildes) as u16);
         k += 1;
         p = e + 1;
     }
@@ -213,8 +184,8 @@ fn rule_line(
     if 2048 < end {
         return 8;
     }
-    put16(heads, rules, literal as u16);
-    put16(starts, rules + 1, end as u16);
+    store::put16(heads, rules, literal as u16);
+    store::put16(starts, rules + 1, end as u16);
     0
 }
 

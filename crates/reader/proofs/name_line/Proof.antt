@@ -68,9 +68,7 @@ mul-put-all : tie.Need-mul-put-all
 mul-put-all c = search needs
 
 put-all-requires : tie.Need-put-all-requires
-put-all-requires c κs =
-    let named = sym (c .before .before .before .before .before .before .before .before .is-name .ensures) ∙ not-false (c .before .before .before .before .before .before .before .before .is-name .result) (c .before .before .before .before .before .before .before .if1 .left) in
-    omega (arith, name-fits _ named .1, c .before .if2 .left)
+put-all-requires c κs = search needs
 
 cast-put8 : tie.Need-cast-put8
 cast-put8 c =
