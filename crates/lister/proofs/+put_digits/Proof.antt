@@ -24,123 +24,56 @@ abbrev put-digits-below : ℕ → In 1 put-digits-kinds.ps
 put-digits-below t =
     and 1 put-digits-kinds.ps (falls 1 put-digits-kinds.ps _<_ μ-put-digits t) put-digits.Pre
 
-put-digits-cast-put8 : (t : ℕ) → put-digits-lts.Need-cast-put8 (
-  put8-reads.Asked,
-  put8-reads.Learnt,
-  put-digits-below t,
-  put-digits.Post,
-) (put-digits-at t) put-digits.Post
+abbrev put-digits-claims : ℕ → put-digits-lts.Claims
+put-digits-claims t = (put8-reads.Asked, put8-reads.Learnt, put-digits-below t, put-digits.Post)
+
+put-digits-cast-put8 : (t : ℕ) → put-digits-lts.Need-cast-put8 (put-digits-claims t) (put-digits-at t) put-digits.Post
 put-digits-cast-put8 t c = search needs
 
-put-digits-add-put8 : (t : ℕ) → put-digits-lts.Need-add-put8 (
-  put8-reads.Asked,
-  put8-reads.Learnt,
-  put-digits-below t,
-  put-digits.Post,
-) (put-digits-at t) put-digits.Post
+put-digits-add-put8 : (t : ℕ) → put-digits-lts.Need-add-put8 (put-digits-claims t) (put-digits-at t) put-digits.Post
 put-digits-add-put8 t c = search needs
 
-put-digits-put8-requires : (t : ℕ) → put-digits-lts.Need-put8-requires (
-  put8-reads.Asked,
-  put8-reads.Learnt,
-  put-digits-below t,
-  put-digits.Post,
-) (put-digits-at t) put-digits.Post
+put-digits-put8-requires : (t : ℕ) → put-digits-lts.Need-put8-requires (put-digits-claims t) (put-digits-at t) put-digits.Post
 put-digits-put8-requires t c κs = search needs
 
-put-digits-add-result : (t : ℕ) → put-digits-lts.Need-add-result (
-  put8-reads.Asked,
-  put8-reads.Learnt,
-  put-digits-below t,
-  put-digits.Post,
-) (put-digits-at t) put-digits.Post
+put-digits-add-result : (t : ℕ) → put-digits-lts.Need-add-result (put-digits-claims t) (put-digits-at t) put-digits.Post
 put-digits-add-result t c = search needs
 
-put-digits-same-length : (t : ℕ) → put-digits-lts.Need-same-length (
-  put8-reads.Asked,
-  put8-reads.Learnt,
-  put-digits-below t,
-  put-digits.Post,
-) (put-digits-at t) put-digits.Post
+put-digits-same-length : (t : ℕ) → put-digits-lts.Need-same-length (put-digits-claims t) (put-digits-at t) put-digits.Post
 put-digits-same-length t c = search needs
 
-put-digits-returns : (t : ℕ) → put-digits-lts.Need-returns (
-  put8-reads.Asked,
-  put8-reads.Learnt,
-  put-digits-below t,
-  put-digits.Post,
-) (put-digits-at t) put-digits.Post
+put-digits-returns : (t : ℕ) → put-digits-lts.Need-returns (put-digits-claims t) (put-digits-at t) put-digits.Post
 put-digits-returns t c = rw (digits-few (c .before .before .before .before .before .before .args .n) (c .before .before .before .before .if1 .taken)) (put-byte (c .before .before .put8 .ensures))
 
-put-digits-put-digits-requires : (t : ℕ) → put-digits-lts.Need-put-digits-requires (
-  put8-reads.Asked,
-  put8-reads.Learnt,
-  put-digits-below t,
-  put-digits.Post,
-) (put-digits-at t) put-digits.Post
+put-digits-put-digits-requires : (t : ℕ) → put-digits-lts.Need-put-digits-requires (put-digits-claims t) (put-digits-at t) put-digits.Post
 put-digits-put-digits-requires t c κs =
     let n = c .before .before .before .args .n in
     let big : 10 ≤ n = c .before .if1 .left in
     (rw (← c .before .before .before .pre .0) (omega arith), omega (arith, digits-one-more n big, c .before .before .before .pre .1))
 
-put-digits-cast-put8-2 : (t : ℕ) → put-digits-lts.Need-cast-put8-2 (
-  put8-reads.Asked,
-  put8-reads.Learnt,
-  put-digits-below t,
-  put-digits.Post,
-) (put-digits-at t) put-digits.Post
+put-digits-cast-put8-2 : (t : ℕ) → put-digits-lts.Need-cast-put8-2 (put-digits-claims t) (put-digits-at t) put-digits.Post
 put-digits-cast-put8-2 t c = search needs
 
-put-digits-add-put8-2 : (t : ℕ) → put-digits-lts.Need-add-put8-2 (
-  put8-reads.Asked,
-  put8-reads.Learnt,
-  put-digits-below t,
-  put-digits.Post,
-) (put-digits-at t) put-digits.Post
+put-digits-add-put8-2 : (t : ℕ) → put-digits-lts.Need-add-put8-2 (put-digits-claims t) (put-digits-at t) put-digits.Post
 put-digits-add-put8-2 t c = search needs
 
-put-digits-put8-requires-2 : (t : ℕ) → put-digits-lts.Need-put8-requires-2 (
-  put8-reads.Asked,
-  put8-reads.Learnt,
-  put-digits-below t,
-  put-digits.Post,
-) (put-digits-at t) put-digits.Post
+put-digits-put8-requires-2 : (t : ℕ) → put-digits-lts.Need-put8-requires-2 (put-digits-claims t) (put-digits-at t) put-digits.Post
 put-digits-put8-requires-2 t c κs = search needs
 
-put-digits-add-result-2 : (t : ℕ) → put-digits-lts.Need-add-result-2 (
-  put8-reads.Asked,
-  put8-reads.Learnt,
-  put-digits-below t,
-  put-digits.Post,
-) (put-digits-at t) put-digits.Post
+put-digits-add-result-2 : (t : ℕ) → put-digits-lts.Need-add-result-2 (put-digits-claims t) (put-digits-at t) put-digits.Post
 put-digits-add-result-2 t c =
     let n = c .before .before .before .before .before .before .before .before .before .before .args .n in
     let big : 10 ≤ n = c .before .before .before .before .before .before .before .before .if1 .left in
     omega (arith, digits-one-more n big, c .before .before .before .before .before .before .before .before .before .before .pre .1, c .before .before .before .before .before .before .put-digits .ensures .place)
 
-put-digits-same-length-2 : (t : ℕ) → put-digits-lts.Need-same-length-2 (
-  put8-reads.Asked,
-  put8-reads.Learnt,
-  put-digits-below t,
-  put-digits.Post,
-) (put-digits-at t) put-digits.Post
+put-digits-same-length-2 : (t : ℕ) → put-digits-lts.Need-same-length-2 (put-digits-claims t) (put-digits-at t) put-digits.Post
 put-digits-same-length-2 t c = search needs
 
-put-digits-returns-2 : (t : ℕ) → put-digits-lts.Need-returns-2 (
-  put8-reads.Asked,
-  put8-reads.Learnt,
-  put-digits-below t,
-  put-digits.Post,
-) (put-digits-at t) put-digits.Post
+put-digits-returns-2 : (t : ℕ) → put-digits-lts.Need-returns-2 (put-digits-claims t) (put-digits-at t) put-digits.Post
 put-digits-returns-2 t c = rw (digits-more (c .before .before .before .before .before .before .before .before .before .before .args .n) (c .before .before .before .before .before .before .before .before .if1 .left)) (put-then (c .before .before .before .before .before .before .put-digits .ensures) (put-byte (c .before .before .put82 .ensures)))
 
 pub +put-digits-spec : {M : Type 1} → statement M
-+put-digits-spec = close μ-put-digits λ t. put-digits-lts.spec (
-  put8-reads.Asked,
-  put8-reads.Learnt,
-  put-digits-below t,
-  put-digits.Post,
-)
++put-digits-spec = close μ-put-digits λ t. put-digits-lts.spec (put-digits-claims t)
     (put-digits-at t)
     put-digits.Post
     (put-digits-cast-put8 t)
