@@ -1,7 +1,5 @@
 // The model of a book and the facts put in: M, N, whether they are contradictory, and the verdict of a literal. A set grows by passes over the
 // rules until a pass adds nothing; one piece of code serves Γ and Γs.
-use book::Book;
-use litset::LitSet;
 ghost use mathlib.Core.Path.{_≡_};
 ghost use Rattle.wfsx.specs.Sets.{_∖_};
 ghost use Rattle.wfsx.specs.Model.{holds, Γ};
@@ -9,6 +7,8 @@ ghost use Rattle.litset.specs.Words.{setOf};
 ghost use Rattle.book.specs.Book.{entryOf, rulesIn, program, programOf};
 ghost use Rattle.fixpoint.specs.Pass.{InTables, shut, pass, version};
 ghost use Rattle.fixpoint.specs.Result.{ClashOf, HalvesOf, ModelOf, verdictIs, verdictIn};
+use book::Book;
+use litset::LitSet;
 
 // The lowest-numbered name that has both literals in a set, if any.
 pub enum Clash {
@@ -190,9 +190,9 @@ pub fn model_of(book: Book, facts: LitSet) -> Model
     let nonfalse = h.nonfalse;
     let clash = first_clash(truths);
     Model {
-        truths: truths,
-        nonfalse: nonfalse,
-        clash: clash,
+        truths,
+        nonfalse,
+        clash,
     }
 }
 
