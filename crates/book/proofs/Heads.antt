@@ -1,6 +1,6 @@
--- Every head of a book's program is a literal that a set of literals has room for: a rule's by the remainder, a fact's since it is a member below
--- the capacity.
-use mathlib.Core.Path.{_≡_}
+-- The program of a book. Every head of it is a literal that a set of literals has room for: a rule's by the remainder, a fact's since it is a member
+-- below the capacity.
+use mathlib.Core.Path.{_≡_, refl}
 use mathlib.Core.Bool.{true}
 use mathlib.Core.Logic.{⊎-elim}
 use mathlib.Core.List.{map, List·Memᴰ·head, List·Memᴰ·tail, List·Memᴰ·append-cases, List·Memᴰ·not-nil, Memᴰ·of-map}
@@ -14,7 +14,7 @@ use Rattle.wfsx.specs.Program.{Rule, fact}
 use Rattle.wfsx.specs.Model.{Heads⊆}
 use Rattle.wfsx.proofs.Members.{members-are}
 use Rattle.litset.specs.Words.{capacity}
-use Rattle.book.specs.Book.{rows, literalOf, rulesOf, programOf}
+use Rattle.book.specs.Book.{rows, literalOf, rulesOf, program, programOf}
 use Rattle.book.specs.declared.Book.{Book}
 
 -- what holds of every value of f holds of the rows
@@ -23,6 +23,10 @@ unfolding rows
 rows-all Q f q k zero x m = absurd (List·Memᴰ·not-nil m)
 rows-all Q f q k (suc n) x (List·Memᴰ·head e) = rw e (q k)
 rows-all Q f q k (suc n) x (List·Memᴰ·tail m) = rows-all Q f q (suc k) n x m
+
+pub program-of : (b : Book) (F : Set) → programOf b F ≡ program (rulesOf b) F
+unfolding programOf
+program-of b F = refl
 
 pub program-heads : (b : Book) (F : Set) → Heads⊆ (programOf b F) (λ A. ltb A capacity)
 unfolding programOf

@@ -1,10 +1,33 @@
--- Laws of `rows` and of a clamped count: what a loop over a table needs.
-use mathlib.Core.Path.{_≡_}
+-- Laws of `rows`: the values one by one, how many there are, and what a loop over a table needs.
+use mathlib.Core.Path.{_≡_, refl, ap, _∙_}
 use mathlib.Core.List.{[], _∷_}
-use Prim.Native.Nat.{ℕ, suc, _+_, _-_, _≤_, _<_}
+use Prim.Native.Nat.{ℕ, zero, suc, _+_, _-_, _≤_, _<_}
 use native.Mathlib.Omega.{arith}
 use native.Mathlib.Numerals.{add-one}
+use lib.ListN.{length, getD}
 use Rattle.book.specs.Book.{rows}
+
+module _ {X : Type 0} (f : ℕ → X) where
+  pub rows-none : (k : ℕ) → rows f k 0 ≡ []
+  unfolding rows
+  rows-none k = refl
+
+  pub rows-first : (k n : ℕ) → rows f k (suc n) ≡ f k ∷ rows f (suc k) n
+  unfolding rows
+  rows-first k n = refl
+
+  pub rows-length : (k n : ℕ) → length (rows f k n) ≡ n
+  unfolding rows
+  rows-length k zero = refl
+  rows-length k (suc n) = ap suc (rows-length (suc k) n)
+
+  pub row-at : (d : X) (k n i : ℕ) → i < n → getD (rows f k n) i d ≡ f (k + i)
+  unfolding rows
+  row-at d k zero i h = absurd (omega arith)
+  row-at d k (suc n) zero h = let e : k ≡ k + 0 = omega arith in ap f e
+  row-at d k (suc n) (suc i) h =
+      let e : suc k + i ≡ k + suc i = omega arith in
+      row-at d (suc k) n i (omega arith) ∙ ap f e
 
 module _ {X : Type 0} (f : ℕ → X) (k n : ℕ) where
   pub rows-step : k < n → rows f k (n - k) ≡ f k ∷ rows f (k + 1) (n - (k + 1))

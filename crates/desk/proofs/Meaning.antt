@@ -1,24 +1,21 @@
 -- The meaning of a lesson by its bits: whether it has a book, and which literals are in it.
 use mathlib.Core.Path.{_≡_, refl, sym, _∙_, ap}
 use mathlib.Core.Bool.{Bool, true, false, cond, true≢false}
-use Prim.Native.Nat.{ℕ, zero, suc, _*_, _≤_, _<_}
+use Prim.Native.Nat.{ℕ, _*_, _≤_, _<_}
 use native.Mathlib.Omega.{arith}
 use lib.Dec.{eqb, ltb}
 use lib.ListN.{length}
 use borrow.Author.Tests.{eq-eqb, ne-eqb, ltb-true, lt-ltb, le-ltb}
 use Rattle.litset.specs.Words.{capacity, setOf}
 use Rattle.book.specs.Limits.{maxNames}
-use Rattle.book.specs.Book.{rows, clamp, nameAt, namesOf, rulesOf, program, programOf}
+use Rattle.book.specs.Book.{clamp, nameAt, namesOf, rulesOf, program, programOf}
 use Rattle.book.specs.declared.Book.{Book}
 use Rattle.book.proofs.Counts.{clamp-most}
+use Rattle.book.proofs.Rows.{rows-length}
+use Rattle.book.proofs.Heads.{program-of}
 use Rattle.desk.specs.Listed.{BookState, unloaded, loaded-with, noneLoaded, inBook, itsNames, itsRules, programIn}
 use Rattle.desk.specs.Calls.{bookStateOf, meaningOf}
 use Rattle.desk.specs.declared.Lesson.{Lesson}
-
-rows-length : {X : Type 0} (f : ℕ → X) (k n : ℕ) → length (rows f k n) ≡ n
-unfolding rows
-rows-length f k zero = refl
-rows-length f k (suc n) = ap suc (rows-length f (suc k) n)
 
 pub names-counted : (b : Book) → length (namesOf b) ≡ clamp maxNames (b .names)
 names-counted b = rows-length (nameAt (b .text) (b .lengths)) 0 (clamp maxNames (b .names))
@@ -52,8 +49,8 @@ module _ (l : Lesson) where
 
   -- the program of a lesson with a book
   pub program-is : noneLoaded (meaningOf l .book) ≡ false → programOf (l .book) (setOf (l .facts .words)) ≡ programIn (meaningOf l)
-  unfolding programOf programIn meaningOf bookStateOf
-  program-is e = go (eqb (l .loaded) 0) e
+  unfolding programIn meaningOf bookStateOf
+  program-is e = program-of (l .book) (setOf (l .facts .words)) ∙ go (eqb (l .loaded) 0) e
     where
       go : (t : Bool) → noneLoaded (cond t unloaded (loaded-with (namesOf (l .book)) (rulesOf (l .book)))) ≡ false
           → program (rulesOf (l .book)) (setOf (l .facts .words)) ≡ program (itsRules (cond t unloaded (loaded-with (namesOf (l .book)) (rulesOf (l .book))))) (setOf (l .facts .words))

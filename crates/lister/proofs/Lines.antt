@@ -16,7 +16,7 @@ use Rattle.wfsx.specs.Model.{Verdict, is-true, is-false, is-undefined}
 use Rattle.book.specs.Book.{rows, clamp, nameAt, namesIn, ruleAt, rulesOf}
 use Rattle.book.specs.declared.Book.{Book}
 use Rattle.book.specs.Limits.{maxNames, maxRules, maxLength}
-use Rattle.book.proofs.Rows.{rows-step, rows-end}
+use Rattle.book.proofs.Rows.{rows-none, rows-first, rows-length, row-at, rows-step, rows-end}
 use Rattle.book.proofs.Counts.{clamp-most}
 use Rattle.fixpoint.specs.declared.Model.{Model}
 use Rattle.fixpoint.specs.declared.Clash.{Clash}
@@ -25,22 +25,6 @@ use Rattle.lister.specs.Listing.{modelWord, contradictionWord, refusedWo
 use Rattle.lister.specs.Steps.{Room, Put, countsTo, verdictsEnd}
 use Rattle.lister.proofs.Stored.{room-first, Left, left-step, left-none}
 use Rattle.lister.proofs.Digits.{digits-most}
-
--- ---- rows of names
-
-module _ {X : Type 0} (f : ℕ → X) where
-  pub length-rows : (k n : ℕ) → length (rows f k n) ≡ n
-  unfolding rows
-  length-rows k zero = refl
-  length-rows k (suc n) = ap suc (length-rows (suc k) n)
-
-  pub row-at : (d : X) (k n i : ℕ) → i < n → getD (rows f k n) i d ≡ f (k + i)
-  unfolding rows
-  row-at d k zero i h = absurd (omega arith)
-  row-at d k (suc n) zero h = let e : k ≡ k + 0 = omega arith in ap f e
-  row-at d k (suc n) (suc i) h =
-      let e : suc k + i ≡ k + suc i = omega arith in
-      row-at d (suc k) n i (omega arith) ∙ ap f e
 
 -- ---- a name's line, and the lines from name k on
 
@@ -86,17 +70,17 @@ module _ (b : Book) (facts : LitSet) (m : Model) {names rules putIn : ℕ} (ns :
     (fs : putIn ≡ length (members capacity (setOf (facts .words)))) where
   by-counts : (c : Clash) → m .clash ≡ c → listingIn b facts m ≡ listingBy (namesIn (b .text) (b .lengths) names) rules putIn (verdictsBy m) c
   unfolding listingIn
-  by-counts c e = rw (ns, rs, fs, e, length-rows (ruleAt (b .heads) (b .starts) (b .entries)) 0 (clamp maxRules (b .rules)))
+  by-counts c e = rw (ns, rs, fs, e, rows-length (ruleAt (b .heads) (b .starts) (b .entries)) 0 (clamp maxRules (b .rules)))
 
   pub clear-parts : m .clash ≡ None
       → listingIn b facts m ≡ field modelWord 44 ++ (countsTo 10 names rules putIn ++ nameLines (verdictsBy m) 0 (namesIn (b .text) (b .lengths) names))
   clear-parts e =
-      by-counts None e ∙ clear-is (namesIn (b .text) (b .lengths) names) rules putIn (verdictsBy m) ∙ rw (length-rows (nameAt (b .text) (b .lengths)) 0 names)
+      by-counts None e ∙ clear-is (namesIn (b .text) (b .lengths) names) rules putIn (verdictsBy m) ∙ rw (rows-length (nameAt (b .text) (b .lengths)) 0 names)
 
   pub clash-parts : (k : ℕ) → m .clash ≡ Name k
       → listingIn b facts m ≡ field contradictionWord 44 ++ (countsTo 44 names rules putIn ++ field (getD (namesIn (b .text) (b .lengths) names) k []) 10)
   clash-parts k e =
-      by-counts (Name k) e ∙ clash-is (namesIn (b .text) (b .lengths) names) rules putIn (verdictsBy m) k ∙ rw (length-rows (nameAt (b .text) (b .lengths)) 0 names)
+      by-counts (Name k) e ∙ clash-is (namesIn (b .text) (b .lengths) names) rules putIn (verdictsBy m) k ∙ rw (rows-length (nameAt (b .text) (b .lengths)) 0 names)
 
 pub refusal-is : (number at : ℕ) → refusalOf number at ≡ field refusedWord 44 ++ (field (digits number) 44 ++ field (digits at) 10)
 unfolding refusalOf line
@@ -161,10 +145,10 @@ line-most v k name h l =
     )
 
 lines-most : (v : ℕ → Verdict) (f : ℕ → List ℕ) → ((k : ℕ) → length (f k) ≤ 16) → (k n : ℕ) → k + n < 10 ^ 20 → length (nameLines v k (rows f k n)) ≤ 58 * n
-unfolding rows nameLines
-lines-most v f short k zero h = omega arith
+unfolding nameLines
+lines-most v f short k zero h = rw (rows-none f k) (omega arith)
 lines-most v f short k (suc n) h =
-    omega (arith, length-append (nameLine v k (f k)) (nameLines v (suc k) (rows f (suc k) n)), line-most v k (f k) (omega arith) (short k), lines-most v f short (suc k) n (omega arith))
+    rw (rows-first f k n) (omega (arith, length-append (nameLine v k (f k)) (nameLines v (suc k) (rows f (suc k) n)), line-most v k (f k) (omega arith) (short k), lines-most v f short (suc k) n (omega arith)))
 
 -- a name of the rows, or the empty name past them
 module _ (text lengths : List ℕ) (n k : ℕ) where
@@ -172,7 +156,7 @@ module _ (text lengths : List ℕ) (n k : ℕ) where
   name-in h = row-at (nameAt text lengths) [] 0 n k h ∙ ap (nameAt text lengths) (zero-add k)
 
   pub name-past : n ≤ k → getD (rows (nameAt text lengths) 0 n) k [] ≡ []
-  name-past h = List·getD-eq-default (rows (nameAt text lengths) 0 n) [] (rw (length-rows (nameAt text lengths) 0 n) h)
+  name-past h = List·getD-eq-default (rows (nameAt text lengths) 0 n) [] (rw (rows-length (nameAt text lengths) 0 n) h)
 
   name-short : length (getD (rows (nameAt text lengths) 0 n) k []) ≤ 16
   name-short = go (decLt k n)
@@ -185,7 +169,7 @@ module _ (text lengths : List ℕ) (n rules facts : ℕ) (v : ℕ → Verdict) (
   room-by : (c : Clash) → Room (listingBy (rows (nameAt text lengths) 0 n) rules facts v c) 0
   room-by None =
       let names = rows (nameAt text lengths) 0 n in
-      let size = length-rows (nameAt text lengths) 0 n in
+      let size = rows-length (nameAt text lengths) 0 n in
       let head = countsTo 10 (length names) rules facts in
       record {
         fits =
@@ -200,7 +184,7 @@ module _ (text lengths : List ℕ) (n rules facts : ℕ) (v : ℕ → Verdict) (
       }
   room-by (Name k) =
       let names = rows (nameAt text lengths) 0 n in
-      let size = length-rows (nameAt text lengths) 0 n in
+      let size = rows-length (nameAt text lengths) 0 n in
       let head = countsTo 44 (length names) rules facts in
       let last = getD names k [] in
       record {
@@ -220,7 +204,7 @@ pub listing-room : (b : Book) (facts : LitSet) (m : Model) → Room (listingIn b
 unfolding listingIn
 listing-room b facts m =
     room-by (b .text) (b .lengths) (clamp maxNames (b .names)) (length (rulesOf b)) (length (members capacity (setOf (facts .words)))) (verdictsBy m)
-    (clamp-most maxNames (b .names)) (omega (arith, length-rows (ruleAt (b .heads) (b .starts) (b .entries)) 0 (clamp maxRules (b .rules)), clamp-most maxRules (b .rules)))
+    (clamp-most maxNames (b .names)) (omega (arith, rows-length (ruleAt (b .heads) (b .starts) (b .entries)) 0 (clamp maxRules (b .rules)), clamp-most maxRules (b .rules)))
     (omega (arith, members-most (setOf (facts .words)) 0 capacity)) (m .clash)
 
 pub refusal-room : (number at : ℕ) → number < 10 ^ 20 → at < 10 ^ 20 → Room (refusalOf number at) 0

@@ -13,10 +13,11 @@ use Rattle.scan.specs.declared.Form.the-variants.{Malformed, Literal}
 use Rattle.scan.proofs.Places.{rest-step, rest-none}
 use Rattle.scan.proofs.Bytes.{lead-most}
 use Rattle.book.specs.Limits.{maxNames}
-use Rattle.book.specs.Book.{rows, clamp, nameAt, namesIn, find, codeOf}
+use Rattle.book.specs.Book.{clamp, nameAt, namesIn, find, codeOf}
 use Rattle.book.specs.declared.Found.{Found}
 use Rattle.book.specs.declared.Found.the-variants.{Nothing, At}
 use Rattle.book.proofs.Counts.{clamp-most}
+use Rattle.book.proofs.Rows.{rows-length}
 use Rattle.reader.specs.File.{allFields, isLiteral, declared, isFound, numberIn, literalNumber, entryFrom}
 use Rattle.reader.specs.Steps.{knownBy, knownOf}
 use Rattle.reader.proofs.Within.{found-below}
@@ -74,11 +75,6 @@ form-tildes f a b e = go (isName (nameOf f)) refl
     go false h = absurd (true≢false (sym (literal-form f a b e) ∙ h))
 
 -- ---- a name looked up
-
-rows-length : {X : Type 0} (f : ℕ → X) (k n : ℕ) → length (rows f k n) ≡ n
-unfolding rows
-rows-length f k zero = refl
-rows-length f k (suc n) = ap suc (rows-length f (suc k) n)
 
 find-below : (names : List (List ℕ)) (n : List ℕ) (i : ℕ) → find names n ≡ At i → i < length names
 find-below names n i e = omega (arith, found-below 0 n names (ap isFound e), ap numberIn e)
