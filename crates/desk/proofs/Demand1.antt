@@ -19,6 +19,7 @@ use Rattle.reader.specs.Conditions.{Row, First}
 use Rattle.reader.specs.declared.Answer.{Answer}
 use Rattle.reader.specs.declared.Answer.the-variants.{Refused}
 use Rattle.reader.proofs.Conditions.{refused-exactly}
+use Rattle.reader.proofs.Outcomes.{refused-accepted}
 use Rattle.desk.specs.Listed.{listingIn, listingSays, bufferAfter, Listed, BookState, unloaded, loaded-with, itsNames, noneLoaded, inBook, programIn, Said, gives, refused, inOrder, ifLoaded, putInSays, takeOutSays, searchSays, ContradictoryOver, VerdictSays, ModelSays, acknowledged}
 use Rattle.desk.specs.Calls.{meaningOf, Fresh, LoadsAs, room, factSays, FactsAfter}
 use Rattle.desk.specs.Runs.{AsItWas, Call, load, put-in, take-out, verdict, ask, model, listing, left, ReplyTo, Meets, Run, NoBook, NotBelow, stateRows, TurnsDown, RefusedBy}
@@ -27,7 +28,6 @@ use Rattle.desk.specs.declared.LoadReply.{LoadReply}
 use Rattle.desk.specs.declared.FactAnswer.{FactAnswer}
 use Rattle.desk.specs.declared.FactAnswer.the-variants as fact
 use Rattle.desk.proofs.Order.{given-refused, refused-same, none-loaded, outside, inside}
-use Rattle.desk.proofs.Replies.{refused-accepted}
 use Rattle.desk.proofs.Left.{left-means}
 use Rattle.desk.proofs.Sound.{Sound, left-sound, heads-in-room, same-contradiction, contradictory-or}
 

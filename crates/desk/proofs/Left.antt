@@ -1,19 +1,15 @@
 -- After every run of a list the lesson means the list's own book and set of facts: by induction over the list, since each call's contract takes the
 -- meaning of the lesson to what `after` makes of it.
 use mathlib.Core.Path.{_≡_, refl, sym, _∙_, ap}
-use mathlib.Core.Bool.{true}
 use mathlib.Core.List.{List, [], _∷_, _++_}
 use Prim.Native.Nat.{ℕ}
-use native.Mathlib.Omega.{arith}
 use Rattle.wfsx.specs.Sets.{Set, ∅}
 use Rattle.wfsx.specs.Program.{Rule}
 use Rattle.book.specs.Book.{bookOf, noBook}
 use Rattle.book.specs.declared.Book.{Book}
-use Rattle.book.proofs.Back.{Storable, book-names, book-rules}
 use Rattle.reader.specs.File.{Outcome, accepted, readFile}
 use Rattle.reader.specs.File as reader
-use Rattle.reader.proofs.Within.{Within, accepted-within}
-use Rattle.scan.proofs.Bytes.{name-fits}
+use Rattle.reader.proofs.Outcomes.{names-loaded, rules-loaded}
 use Rattle.desk.specs.Listed.{Listed, loaded-with, putInSays, takeOutSays, Said, Ack}
 use Rattle.desk.specs.Listed as listed
 use Rattle.desk.specs.Calls.{bookStateOf, meaningOf, LessonIs, Fresh, LoadsAs, factSays, FactsAfter}
@@ -33,21 +29,10 @@ fresh-means l h = lesson-means 0 noBook ∅ l h
 
 -- ---- load
 
-module _ (file : List ℕ) (names : List (List ℕ)) (rules : List Rule) (e : readFile file ≡ accepted names rules) where
-  within : Within (record { names = names; rules = rules; ended = true })
-  within = accepted-within file names rules e
-
-  storable : Storable rules
-  storable =
-      record {
-        heads-fit = λ r i. let h = within .heads-known r i in let few = within .few-names in omega arith;
-        entries-fit = λ r i x j. let h = within .entries-known r i x j in let few = within .few-names in omega arith;
-      }
-
-  accepted-means : bookStateOf 1 (bookOf names rules) ≡ loaded-with names rules
-  unfolding bookStateOf
-  accepted-means =
-      rw (book-names names rules (λ n i. name-fits n (within .names-fit n i) .1) (within .few-names), book-rules names rules storable (within .few-rules)) refl
+accepted-means : (file : List ℕ) (names : List (List ℕ)) (rules : List Rule) → readFile file ≡ accepted names rules
+    → bookStateOf 1 (bookOf names rules) ≡ loaded-with names rules
+unfolding bookStateOf
+accepted-means file names rules e = rw (names-loaded file names rules e, rules-loaded file names rules e) refl
 
 load-means : (l : Lesson) (file : List ℕ) (r : LoadReply) (o : Outcome) → readFile file ≡ o → LoadsAs l o r → meaningOf (r .lesson) ≡ reads (meaningOf l) o
 load-means l file r (accepted names rules) e h =

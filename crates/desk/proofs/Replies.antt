@@ -1,6 +1,6 @@
 -- What a reply is once the tests of a call have picked an arm, over plain values: the calls' proofs cite these.
 use mathlib.Core.Path.{_≡_, refl, sym, _∙_, ap}
-use mathlib.Core.Bool.{Bool, true, false, cond, true≢false}
+use mathlib.Core.Bool.{Bool, true, false, cond}
 use mathlib.Core.List.{List, _++_}
 use lib.Dec.{leb}
 use lib.ListN.{length, drop}
@@ -15,18 +15,19 @@ use Rattle.litset.specs.Words.{setOf, with, without}
 use Rattle.litset.specs.declared.LitSet.{LitSet}
 use Rattle.litset.proofs.Words.{with-room}
 use Rattle.book.specs.Book.{namesOf, rulesOf, programOf}
-use Rattle.reader.specs.File.{Outcome, accepted}
+use Rattle.reader.specs.File.{Outcome}
 use Rattle.reader.specs.File as reader
 use Rattle.reader.specs.Loading.{loadedOf}
-use Rattle.reader.specs.declared.Answer.{Answer}
 use Rattle.reader.specs.declared.Answer.the-variants.{Accepted, Refused}
 use Rattle.reader.specs.declared.Loaded.{Loaded}
 use Rattle.lister.specs.Listing.{listingOf}
 use Rattle.lister.specs.Listing as lister
-use Rattle.lister.specs.Buffer.{writtenOf, bufferOf, Writes}
+use Rattle.lister.specs.Buffer.{Writes}
 use Rattle.lister.specs.declared.Written.{Written}
 use Rattle.lister.specs.declared.Written.the-variants.{Length, Short}
 use Rattle.lister.proofs.Lesson.{lesson-listing}
+use Rattle.reader.proofs.Outcomes.{was-accepted, was-refused}
+use Rattle.lister.proofs.Calls.{was-written, was-short}
 use Rattle.desk.specs.declared.ListAnswer.the-variants as lists
 use Rattle.fixpoint.specs.Result.{ModelOf, verdictIs, verdictIn}
 use Rattle.fixpoint.specs.declared.Verdict.{Verdict}
@@ -45,25 +46,14 @@ use Rattle.desk.proofs.Meaning.{state-loaded, none-loaded-is, loaded-is
 
 -- ---- load
 
-abbrev isAccepted : Answer → Bool
-isAccepted Accepted = true
-isAccepted (Refused number line) = false
+module _ (l : Lesson) (q : Loaded) (o : Outcome) (e : q ≡ loadedOf o) where
+  pub load-accepted : q .answer ≡ Accepted → (m : Lesson) → LessonIs 1 (q .book) ∅ m → LoadsAs l o (record { answer = Accepted; lesson = m })
+  load-accepted a m h =
+      let was = was-accepted q o e a in
+      rw (was .outcome) (refl, record { loaded-is = h .loaded-is; book-is = h .book-is ∙ was .book-is; facts-are = h .facts-are })
 
-pub refused-accepted : (k line : ℕ) → _≡_ {A = Answer} (Refused k line) Accepted → ⊥
-refused-accepted k line e = true≢false (sym (ap isAccepted e))
-
-module _ (l : Lesson) (q : Loaded) where
-  pub load-accepted : (o : Outcome) → q ≡ loadedOf o → q .answer ≡ Accepted → (m : Lesson) → LessonIs 1 (q .book) ∅ m
-      → LoadsAs l o (record { answer = Accepted; lesson = m })
-  unfolding loadedOf
-  load-accepted (accepted names rules) e a m h =
-      (refl, record { loaded-is = h .loaded-is; book-is = h .book-is ∙ ap (λ (x : Loaded). x .book) e; facts-are = h .facts-are })
-  load-accepted (reader.refused k line) e a m h = absurd (refused-accepted k line (sym (ap (λ (x : Loaded). x .answer) e) ∙ a))
-
-  pub load-refused : (o : Outcome) → q ≡ loadedOf o → (k line : ℕ) → q .answer ≡ Refused k line → LoadsAs l o (record { answer = Refused k line; lesson = l })
-  unfolding loadedOf
-  load-refused (accepted names rules) e k line a = absurd (refused-accepted k line (sym a ∙ ap (λ (x : Loaded). x .answer) e))
-  load-refused (reader.refused j at) e k line a = (sym a ∙ ap (λ (x : Loaded). x .answer) e, refl)
+  pub load-refused : (k line : ℕ) → q .answer ≡ Refused k line → LoadsAs l o (record { answer = Refused k line; lesson = l })
+  load-refused k line a = rw (was-refused q o e k line a) (refl, refl)
 
 -- ---- put in, take out
 
@@ -215,20 +205,6 @@ module _ (l : Lesson) where
 
 -- ---- listing
 
-abbrev lengthIn : Written → ℕ
-lengthIn (Length n) = n
-lengthIn Short = 0
-
-abbrev isLength : Written → Bool
-isLength (Length n) = true
-isLength Short = false
-
-length-same : (m n : ℕ) → _≡_ {A = Written} (Length m) (Length n) → m ≡ n
-length-same m n e = ap lengthIn e
-
-short-length : (n : ℕ) → _≡_ {A = Written} Short (Length n) → ⊥
-short-length n e = true≢false (sym (ap isLength e))
-
 -- the listing of a lesson with a book
 lesson-bytes : (l : Lesson) → (l .loaded ≡ 0 → ⊥) → listingOf (namesOf (l .book)) (rulesOf (l .book)) (setOf (l .facts .words)) ≡ listingIn (meaningOf l)
 unfolding listingIn meaningOf
@@ -239,22 +215,10 @@ module _ (B before after : List ℕ) (w : Written) (h : Writes B before w after)
   fitting = cond (leb (length B) (length before)) (gives (length B)) (refused 25)
 
   written-length : (n : ℕ) → w ≡ Length n → (fitting ≡ gives n) × (after ≡ B ++ drop n before)
-  unfolding writtenOf bufferOf
-  written-length n e = go (leb (length B) (length before)) (sym (h .answer) ∙ e) (h .buffer)
-    where
-      go : (t : Bool) → cond t (Length (length B)) Short ≡ Length n → after ≡ cond t (B ++ drop (length B) before) before
-          → (cond t (gives (length B)) (refused 25) ≡ gives n) × (after ≡ B ++ drop n before)
-      go true q b = let same = length-same (length B) n q in (ap gives same, b ∙ ap (λ (k : ℕ). B ++ drop k before) same)
-      go false q b = absurd (short-length n q)
+  written-length n e = let was = was-written h n e in (rw (was .0) (ap gives (was .1)), was .2)
 
   written-short : w ≡ Short → (fitting ≡ refused 25) × (after ≡ before)
-  unfolding writtenOf bufferOf
-  written-short e = go (leb (length B) (length before)) (sym (h .answer) ∙ e) (h .buffer)
-    where
-      go : (t : Bool) → cond t (Length (length B)) Short ≡ Short → after ≡ cond t (B ++ drop (length B) before) before
-          → (cond t (gives (length B)) (refused 25) ≡ refused 25) × (after ≡ before)
-      go true q b = absurd (short-length (length B) (sym q))
-      go false q b = (refl, b)
+  written-short e = let was = was-short h e in (rw (was .0) refl, was .1)
 
 module _ (l : Lesson) (before : List ℕ) where
   pub listing-20 : l .loaded ≡ 0 → Lists l before (record { answer = lists.Refused 20; lesson = l }) before

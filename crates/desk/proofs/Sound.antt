@@ -22,6 +22,7 @@ use Rattle.book.specs.Limits.{maxNames}
 use Rattle.reader.specs.File.{Outcome, accepted, readFile}
 use Rattle.reader.specs.File as reader
 use Rattle.reader.proofs.Within.{accepted-within}
+use Rattle.litset.proofs.Words.{without-at}
 use Rattle.desk.specs.Listed.{Listed, itsNames, itsRules, programIn, noneLoaded, inBook, Said, gives, refused, Ack, inOrder, putInSays, takeOutSays, ContradictoryOver}
 use Rattle.desk.specs.Calls.{room}
 use Rattle.desk.specs.Runs.{Call, load, put-in, take-out, verdict, ask, model, listing, nothing, reads, withSet, unlessRefused, after, afterAll, left}
@@ -70,9 +71,8 @@ sound-add d A s (gives x) e =
 sound-add d A s (refused n) e = s
 
 sound-drop : (d : Listed) (A : ℕ) → Sound d → (said : Said Ack) → Sound (unlessRefused said (withSet d (without A (d .facts))) d)
-unfolding without
 sound-drop d A s (gives x) =
-    record { few-names = s .few-names; heads-known = s .heads-known; facts-known = λ B h. s .facts-known B (and-l (d .facts B) (not (eqb B A)) h) }
+    record { few-names = s .few-names; heads-known = s .heads-known; facts-known = λ B h. s .facts-known B (and-l (d .facts B) (not (eqb B A)) (sym (without-at A (d .facts) B) ∙ h)) }
 sound-drop d A s (refused n) = s
 
 pub sound-after : (d : Listed) (c : Call) → Sound d → Sound (after d c)

@@ -12,7 +12,7 @@ use Rattle.wfsx.specs.Model.{holds, supported, Γ, Γs, I, M, N}
 use Rattle.wfsx.proofs.Sets.{not-intro, and-l, and-r, and-intro, or-elim, or-l, or-r, ⊆-antisym}
 use Rattle.wfsx.proofs.Supported.{supported-seminormal}
 use Rattle.wfsx.proofs.Facts.{supported-facts}
-use Rattle.wfsx.proofs.Operators.{Γ-fixed, Γ-inside, I-grows, I⊆M, M-least, N-is}
+use Rattle.wfsx.proofs.Operators.{Γ-fixed, Γ-inside, I-grows, I⊆M, M-least, N-is, I-none, I-next}
 use Rattle.litset.specs.Words.{capacity}
 use Rattle.book.specs.Book.{program}
 use Rattle.fixpoint.specs.Pass.{version, shut, pass}
@@ -101,14 +101,12 @@ module _ (P : Program) where
     pub is : X ≡ I P k
 
   pub round-start : {X : Set} → X ≡ ∅ → Round X
-  unfolding I
-  round-start e = record { k = 0; is = e }
+  round-start e = record { k = 0; is = e ∙ sym (I-none P) }
 
   -- U is Γs(X) and Y is Γ(U)
   module _ {X U Y : Set} (g : Round X) (u : U ≡ Γs P X) (y : Y ≡ Γ P U) where
     next : Y ≡ I P (suc (g .k))
-    unfolding I
-    next = y ∙ ap (Γ P) (u ∙ ap (Γs P) (g .is))
+    next = y ∙ ap (Γ P) (u ∙ ap (Γs P) (g .is)) ∙ sym (I-next P (g .k))
 
     pub round-more : Round Y
     round-more = record { k = suc (g .k); is = next }

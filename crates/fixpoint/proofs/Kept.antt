@@ -9,6 +9,7 @@ use borrow.Author.Tests.{eq-eqb, ne-eqb}
 use Rattle.wfsx.specs.Sets.{Set, _∈_, _∉_, _∖_}
 use Rattle.wfsx.proofs.Sets.{refuted}
 use Rattle.litset.specs.Words.{without}
+use Rattle.litset.proofs.Words.{without-at}
 use Rattle.fixpoint.specs.Pass.{shut}
 
 module _ (F B : Set) where
@@ -35,11 +36,10 @@ module _ (F B : Set) where
             k .left A (omega arith) ∙ sym (ap (λ (b : Bool). F A && not b) (ap B is ∙ b) ∙ and-true (F A))
 
     pub kept-shut : {Y : Set} → l ∈ B → Y ≡ without l X → Kept (l + 1) Y
-    unfolding without
     kept-shut {Y} b y =
         record {
-          done = λ A h. ap (λ (S : Set). S A) y ∙ go A h (ℕ-discrete A l);
-          left = λ A h. ap (λ (S : Set). S A) y ∙ rw (ne-eqb A l (λ e. omega arith)) (and-true (X A)) ∙ k .left A (omega arith);
+          done = λ A h. ap (λ (S : Set). S A) y ∙ without-at l X A ∙ go A h (ℕ-discrete A l);
+          left = λ A h. ap (λ (S : Set). S A) y ∙ without-at l X A ∙ rw (ne-eqb A l (λ e. omega arith)) (and-true (X A)) ∙ k .left A (omega arith);
         }
       where
         go : (A : ℕ) → A < l + 1 → Dec (A ≡ l) → (X A && not (eqb A l)) ≡ (F ∖ B) A

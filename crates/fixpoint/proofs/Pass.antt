@@ -10,7 +10,7 @@ use Rattle.wfsx.specs.Sets.{Set, _∈_, _∉_, _⊆_, add}
 use Rattle.wfsx.specs.Program.{Rule}
 use Rattle.wfsx.specs.Model.{holds, every, supported}
 use Rattle.wfsx.proofs.Sets.{clash, decided, and-l, and-r, or-elim, or-r, ⊆-antisym, add-has, ⊆-add}
-use Rattle.wfsx.proofs.Supported.{supported-map, holds-map, supported-intro}
+use Rattle.wfsx.proofs.Supported.{supported-map, holds-map, supported-intro, supported-none, supported-first}
 use Rattle.fixpoint.specs.Pass.{fire, pass}
 
 module _ (B S : Set) where
@@ -19,8 +19,7 @@ module _ (B S : Set) where
   Full P U = (A : ℕ) → A ∉ B → A ∈ supported P (holds U S) → A ∈ U
 
   later : (r : Rule) (P : List Rule) (U : Set) → Full (r ∷ P) U → Full P U
-  unfolding supported
-  later r P U f A b h = f A b (or-r (eqb (r .head) A && every (holds U S) (r .body)) (supported P (holds U S) A) h)
+  later r P U f A b h = f A b (supported-first r P (holds U S) A ∙ or-r (eqb (r .head) A && every (holds U S) (r .body)) (supported P (holds U S) A) h)
 
   -- ---- it only adds
 
@@ -66,9 +65,10 @@ module _ (B S : Set) where
   fired r X b e = rw (b, e) (add-has (r .head) X)
 
   pub pass-still : (P : List Rule) (X : Set) → pass P B S X ⊆ X → Full P X
-  unfolding pass supported
-  pass-still [] X h A b s = absurd (clash s refl)
-  pass-still (r ∷ P) X h A b s = go (pass-still P X rest A b) (or-elim (eqb (r .head) A && every (holds X S) (r .body)) (supported P (holds X S) A) s)
+  unfolding pass
+  pass-still [] X h A b s = absurd (clash s (supported-none (holds X S) A))
+  pass-still (r ∷ P) X h A b s =
+      go (pass-still P X rest A b) (or-elim (eqb (r .head) A && every (holds X S) (r .body)) (supported P (holds X S) A) (sym (supported-first r P (holds X S) A) ∙ s))
     where
       kept : fire B S r X ⊆ X
       kept C c = h C (pass-grows P (fire B S r X) C c)

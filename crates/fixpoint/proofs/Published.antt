@@ -14,6 +14,7 @@ use Rattle.litset.specs.Words.{capacity, setOf}
 use Rattle.book.specs.Book.{programOf}
 use Rattle.book.specs.declared.Book.{Book}
 use Rattle.book.proofs.Heads.{program-heads}
+use Rattle.wfsx.proofs.Operators.{verdict-is}
 use Rattle.fixpoint.specs.declared.Clash.{Clash}
 use Rattle.fixpoint.specs.declared.Clash.the-variants.{None, Name}
 use Rattle.fixpoint.specs.declared.Model.{Model}
@@ -70,8 +71,7 @@ module _ (b : Book) (F : Set) (m : Model) (is : ModelOf (programOf b F) m) where
 module _ (P : Program) (m : Model) (is : ModelOf P m) where
   -- the verdict that the model's sets give is that of the semantics
   pub verdict-same : (l : ℕ) → verdictIn (setOf (m .truths .words)) (setOf (m .nonfalse .words)) l ≡ verdict P l
-  unfolding verdict
-  verdict-same l = ap₂ (λ (T U : Set). verdictIn T U l) (is .truths) (is .nonfalse)
+  verdict-same l = ap₂ (λ (T U : Set). verdictIn T U l) (is .truths) (is .nonfalse) ∙ sym (verdict-is P l)
 
   -- a program has one model: its sets settle their words (`set-settles`)
   pub model-settles : (n : Model) → ModelOf P n

@@ -6,7 +6,7 @@ use Prim.Native.Nat.{ℕ, _+_, _-_, _/_, _%_, _≤_, _<_, min}
 use native.Mathlib.Nat.{mod-lt, zero-lt-suc}
 use native.Mathlib.Omega.{arith}
 use lib.ListN.{length, take, drop, getD}
-use borrow.Author.Tests.{eq-eqb, ne-eqb, lt-ltb}
+use borrow.Author.Tests.{eq-eqb, ne-eqb}
 use Rattle.wfsx.specs.Sets.{Set, _∈_, _∉_, add}
 use Rattle.wfsx.specs.Program.{Rule}
 use Rattle.wfsx.specs.Model.{holds, every}
@@ -14,6 +14,8 @@ use Rattle.litset.specs.Words.{capacity, with}
 use Rattle.book.specs.Book.{rows, entryOf, bodyAt, ruleAt, rulesIn}
 use Rattle.book.proofs.Rows.{rows-step, rows-end}
 use Rattle.book.proofs.Parts.{part-step, part-end}
+use Rattle.wfsx.proofs.Supported.{every-none, every-first}
+use Rattle.litset.proofs.Words.{with-room}
 use Rattle.fixpoint.specs.Pass.{pass}
 
 -- ---- one entry
@@ -55,8 +57,7 @@ module _ {starts entries : List ℕ} {S X : Set} {r j : ℕ} (p : Passed starts 
 
   first : At → every (holds X S) (map entryOf (bodyAt starts entries r))
       ≡ holds X S (entryOf (getD entries j 0)) && every (holds X S) (map entryOf (take (getD starts (r + 1) 0 - (j + 1)) (drop (j + 1) entries)))
-  unfolding every
-  first h = p .same ∙ rw (part-step entries j (getD starts (r + 1) 0) (h .0) (h .1)) refl
+  first h = p .same ∙ rw (part-step entries j (getD starts (r + 1) 0) (h .0) (h .1)) (every-first (holds X S) _ _)
 
   pub passed-more : At → holds X S (entryOf (getD entries j 0)) ≡ true → Passed starts entries S X r (j + 1)
   passed-more h e = record { same = first h ∙ rw e refl }
@@ -65,8 +66,7 @@ module _ {starts entries : List ℕ} {S X : Set} {r j : ℕ} (p : Passed starts 
   passed-fails h e = first h ∙ rw e refl
 
   pub passed-all : min (getD starts (r + 1) 0) (length entries) ≤ j → every (holds X S) (map entryOf (bodyAt starts entries r)) ≡ true
-  unfolding every
-  passed-all h = p .same ∙ rw (part-end entries j (getD starts (r + 1) 0) h) refl
+  passed-all h = p .same ∙ rw (part-end entries j (getD starts (r + 1) 0) h) (every-none (holds X S))
 
 -- ---- a pass from X₀ has come to X before rule r
 
@@ -95,10 +95,9 @@ module _ {heads starts entries : List ℕ} {B S X₀ X : Set} {count r : ℕ} (g
 
       pub going-fires : {Y : Set} → n % capacity ∉ B → every (holds X S) (map entryOf (bodyAt starts entries r)) ≡ true
           → Y ≡ with (n % capacity) X → Going heads starts entries B S X₀ Y count (r + 1)
-      unfolding with
       going-fires b e y =
           stepped (pass-fires B S (ruleAt heads starts entries r) _ X (rw (← is) b) e
-          ∙ ap (pass _ B S) (sym (y ∙ rw (lt-ltb (n % capacity) capacity (mod-lt _ (zero-lt-suc _)), is) refl)))
+          ∙ ap (pass _ B S) (sym (y ∙ with-room (n % capacity) X (mod-lt _ (zero-lt-suc _)) ∙ rw is refl)))
 
 pub going-start : {heads starts entries : List ℕ} {B S X₀ : Set} {count : ℕ} → Going heads starts entries B S X₀ X₀ count 0
 going-start {count = count} = let all : count - 0 ≡ count = omega arith in record { inside = omega arith; same = rw all refl }

@@ -1,10 +1,12 @@
 -- A first run of stores tells how long the bytes are, whatever it stores into. Where the buffer is shorter nothing is stored in it, and where it
 -- is not, a second run puts the bytes at its start.
-use mathlib.Core.Path.{_≡_, refl, ap, _∙_}
-use mathlib.Core.List.{List}
+use mathlib.Core.Path.{_≡_, refl, ap, _∙_, sym}
+use mathlib.Core.Bool.{Bool, true, false, cond}
+use mathlib.Core.List.{List, _++_}
 use Prim.Native.Nat.{ℕ, _≤_, _<_}
 use native.Mathlib.Nat.{zero-add}
 use native.Mathlib.Omega.{arith}
+use lib.Dec.{leb}
 use lib.ListN.{length, take, drop}
 use lib.Seq.{take-append-seam}
 use borrow.Author.Tests.{le-leb, lt-leb}
@@ -31,7 +33,28 @@ module _ {bytes t u before : List ℕ} {n : ℕ} (tried : Put bytes 0 t u n) whe
       let yes = le-leb (length bytes) (length before) fits in
       record { answer = rw yes (ap Length (size tried)); buffer = rw yes (put-whole x fits) }
 
--- for a caller: what is left in a buffer that is long enough
+-- ---- for a caller
+
+-- by what was answered
+module _ {bytes before after : List ℕ} {r : Written} (w : Writes bytes before r after) where
+  pub was-written : (n : ℕ) → r ≡ Length n → (leb (length bytes) (length before) ≡ true) × (length bytes ≡ n) × (after ≡ bytes ++ drop n before)
+  unfolding writtenOf bufferOf
+  was-written n e = go (leb (length bytes) (length before)) (sym (w .answer) ∙ e) (w .buffer)
+    where
+      go : (t : Bool) → cond t (Length (length bytes)) Short ≡ Length n → after ≡ cond t (bytes ++ drop (length bytes) before) before
+          → (t ≡ true) × (length bytes ≡ n) × (after ≡ bytes ++ drop n before)
+      go true q b = let same : length bytes ≡ n = cc in (refl, same, b ∙ ap (λ (k : ℕ). bytes ++ drop k before) same)
+      go false q b = let z : _≡_ {A = ℕ} 0 1 = cc in absurd (omega arith)
+
+  pub was-short : r ≡ Short → (leb (length bytes) (length before) ≡ false) × (after ≡ before)
+  unfolding writtenOf bufferOf
+  was-short e = go (leb (length bytes) (length before)) (sym (w .answer) ∙ e) (w .buffer)
+    where
+      go : (t : Bool) → cond t (Length (length bytes)) Short ≡ Short → after ≡ cond t (bytes ++ drop (length bytes) before) before → (t ≡ false) × (after ≡ before)
+      go true q b = let z : _≡_ {A = ℕ} 0 1 = cc in absurd (omega arith)
+      go false q b = (refl, b)
+
+-- in a buffer that is long enough
 module _ {bytes before after : List ℕ} {r : Written} (w : Writes bytes before r after) (fits : length bytes ≤ length before) where
   pub length-answered : r ≡ Length (length bytes)
   unfolding writtenOf

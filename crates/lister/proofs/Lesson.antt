@@ -1,6 +1,6 @@
 -- The listing of what is held in memory is the listing of the lesson, where the model is that of the book and the facts: the model's sets are M and N,
 -- and the name that it clashes in is the one that the computed search finds, since no literal of M is past the capacity.
-use mathlib.Core.Path.{_≡_, ap₂, fun-ext}
+use mathlib.Core.Path.{_≡_, ap₂, fun-ext, _∙_, ap}
 use mathlib.Core.Bool.{true, false, _&&_}
 use mathlib.Core.Logic.{_⊎_, inl, inr}
 use Prim.Native.Nat.{ℕ, zero, suc, _+_, _*_, _/_, _<_}
@@ -17,10 +17,11 @@ use Rattle.litset.specs.Words.{capacity, setOf}
 use Rattle.litset.specs.declared.LitSet.{LitSet}
 use Rattle.book.specs.Book.{namesOf, rulesOf, programOf}
 use Rattle.book.specs.declared.Book.{Book}
-use Rattle.book.proofs.Heads.{program-heads}
+use Rattle.book.proofs.Heads.{program-heads, program-of}
 use Rattle.fixpoint.specs.Result.{ClashOf, ModelOf}
 use Rattle.fixpoint.specs.declared.Model.{Model}
 use Rattle.fixpoint.proofs.Published.{clash-settles, verdict-same}
+use Rattle.wfsx.specs.Program.{Program}
 use Rattle.lister.specs.Listing.{listingBy, clashFrom, clashIn, listingOf, verdictsBy, listingIn}
 
 -- Where no name below k has both literals in S and none past the n names from k on has, the search finds the clash of S.
@@ -58,8 +59,9 @@ module _ (b : Book) (facts : LitSet) (m : Model) (is : ModelOf (programOf b (set
       clash-settles (M (programOf b F)) _ _ (is .clash) (clash-found (M (programOf b F)) 0 (capacity / 2) (λ i h. absurd (omega arith)) (both-within b F))
 
   pub lesson-listing : listingIn b facts m ≡ listingOf (namesOf b) (rulesOf b) (setOf (facts .words))
-  unfolding listingIn listingOf programOf
+  unfolding listingIn listingOf
   lesson-listing =
       let F = setOf (facts .words) in
+      let whole = program-of b F in
       let same : verdictsBy m ≡ verdict (programOf b F) = fun-ext (verdict-same (programOf b F) m is) in
-      ap₂ (listingBy (namesOf b) (length (rulesOf b)) (length (members capacity F))) same clash-is
+      ap₂ (listingBy (namesOf b) (length (rulesOf b)) (length (members capacity F))) (same ∙ ap verdict whole) (clash-is ∙ ap (λ (P : Program). clashIn (M P)) whole)

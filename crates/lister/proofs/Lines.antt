@@ -1,5 +1,4 @@
 -- The listing as the parts that are written one behind the other, and how long it can be.
-use mathlib.Core.Bool.{Bool, true, false, cond}
 use mathlib.Core.Path.{_≡_, refl, ap, _∙_}
 use mathlib.Core.List.{List, [], _∷_, _++_, append-assoc}
 use Prim.Native.Nat.{ℕ, zero, suc, _+_, _-_, _*_, _^_, _≤_, _<_}
@@ -8,8 +7,8 @@ use native.Mathlib.Decide.{decLt}
 use native.Mathlib.Numerals.{add-one}
 use native.Mathlib.Omega.{arith}
 use lib.ListN.{length, getD, drop, length-append, length-take, List·getD-eq-default}
-use Rattle.wfsx.specs.Sets.{Set, members, membersFrom}
-use Rattle.wfsx.proofs.Members.{length-first}
+use Rattle.wfsx.specs.Sets.{members}
+use Rattle.wfsx.proofs.Members.{length-most}
 use Rattle.litset.specs.Words.{capacity, setOf}
 use Rattle.litset.specs.declared.LitSet.{LitSet}
 use Rattle.wfsx.specs.Model.{Verdict, is-true, is-false, is-undefined}
@@ -105,15 +104,6 @@ name-most text lengths k =
     let n = clamp maxLength (getD lengths k 0) in
     rw (length-take n (drop (16 * k) text)) (omega (arith, clamp-most maxLength (getD lengths k 0)))
 
-one-most : (t : Bool) → cond t 1 0 ≤ 1
-one-most true = omega arith
-one-most false = omega arith
-
-members-most : (S : Set) (b n : ℕ) → length (membersFrom S b n) ≤ n
-unfolding membersFrom
-members-most S b zero = omega arith
-members-most S b (suc n) = omega (arith, length-first S b n, one-most (S b), members-most S (suc b) n)
-
 counts-most : (stop names rules facts : ℕ) → names < 10 ^ 20 → rules < 10 ^ 20 → facts < 10 ^ 20 → length (countsTo stop names rules facts) ≤ 63
 counts-most stop names rules facts a b c =
     let rest = field (digits rules) 44 ++ field (digits facts) stop in
@@ -205,7 +195,7 @@ unfolding listingIn
 listing-room b facts m =
     room-by (b .text) (b .lengths) (clamp maxNames (b .names)) (length (rulesOf b)) (length (members capacity (setOf (facts .words)))) (verdictsBy m)
     (clamp-most maxNames (b .names)) (omega (arith, rows-length (ruleAt (b .heads) (b .starts) (b .entries)) 0 (clamp maxRules (b .rules)), clamp-most maxRules (b .rules)))
-    (omega (arith, members-most (setOf (facts .words)) 0 capacity)) (m .clash)
+    (omega (arith, length-most (setOf (facts .words)) 0 capacity)) (m .clash)
 
 pub refusal-room : (number at : ℕ) → number < 10 ^ 20 → at < 10 ^ 20 → Room (refusalOf number at) 0
 refusal-room number at h l =

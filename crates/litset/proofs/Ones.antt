@@ -12,7 +12,7 @@ use lib.Count.{ones, ones-step}
 use lib.Dec.{eqb}
 use lib.ListN.{length, getD, take}
 use Rattle.wfsx.specs.Sets.{membersFrom, members}
-use Rattle.wfsx.proofs.Members.{length-first, length-parts, length-moved}
+use Rattle.wfsx.proofs.Members.{length-first, length-parts, length-moved, length-none}
 use Rattle.litset.specs.Words.{bit, setOf}
 use Rattle.litset.proofs.Bit.{bit-half}
 
@@ -23,8 +23,8 @@ onesOf (w ∷ ws) = ones w + onesOf ws
 
 -- the members that one word of k bits gives
 word-ones : (k w : ℕ) → w < 2 ^ k → length (membersFrom (bit w) 0 k) ≡ ones w
-unfolding membersFrom ones
-word-ones zero w h = ap ones (sym (lt-one h))
+unfolding ones
+word-ones zero w h = length-none (bit w) 0 ∙ ap ones (sym (lt-one h))
 word-ones (suc k) w h =
     length-first (bit w) 0 k
     ∙ ap₂ (λ (x y : ℕ). x + y) (simp div-one (digit (w % 2) (mod-lt _ (zero-lt-suc 1))))
@@ -40,8 +40,8 @@ word-ones (suc k) w h =
     up i = sym (bit-half w i) ∙ ap (bit (w / 2)) (omega arith)
 
 pub ones-are-members : (ws : List ℕ) → ((i : ℕ) → getD ws i 0 < 2 ^ 64) → onesOf ws ≡ length (members (64 * length ws) (setOf ws))
-unfolding onesOf membersFrom setOf
-ones-are-members [] h = refl
+unfolding onesOf setOf
+ones-are-members [] h = sym (length-none (setOf []) 0)
 ones-are-members (w ∷ ws) h =
     ap₂ (λ (x y : ℕ). x + y) (sym (word-ones 64 w (h 0)) ∙ sym first) (ones-are-members ws (λ i. h (suc i)) ∙ sym rest)
     ∙ sym (length-parts (setOf (w ∷ ws)) 0 64 (64 * length ws)) ∙ ap (λ (n : ℕ). length (members n (setOf (w ∷ ws)))) (size (length ws))

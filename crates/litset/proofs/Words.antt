@@ -1,6 +1,6 @@
 -- Laws of `setOf`, over a list of words of any length.
 use mathlib.Core.Path.{_≡_, refl, sym, ap, _∙_, fun-ext}
-use mathlib.Core.Bool.{Bool, true, false, not, _&&_, _||_, and-true, or-true, or-false, true≢false, cond}
+use mathlib.Core.Bool.{Bool, true, false, not, _&&_, _||_, and-true, or-true, or-false, true≢false}
 use mathlib.Core.List.{List}
 use Prim.Native.Nat.{ℕ, zero, suc, _+_, _*_, _/_, _%_, _^_, _≤_, _<_, _-_}
 use native.Mathlib.Omega.{arith}
@@ -14,17 +14,17 @@ use borrow.Author.Tests.{eq-eqb, ne-eqb, lt-ltb, le-ltb}
 use native.Mathlib.Nat.{le-refl}
 use Rattle.wfsx.specs.Sets.{Set, _∈_, ∅, _∪_, add}
 use Rattle.wfsx.specs.Program.{compl}
+use Rattle.wfsx.proofs.Program.{compl-plain, compl-negated}
 use Rattle.litset.specs.Words.{nWords, capacity, bit, setOf, with, without}
 use Rattle.litset.proofs.Bit.{or-bit, clear, clear-bit, bit-zero, pow-same, pow-other, same-bits}
 
 -- the capacity is even, so the complement of a literal below it is below it
 pub compl-small : (A : ℕ) → A < capacity → compl A < capacity
-unfolding compl
 compl-small A h = go (ℕ-discrete (A % 2) 0)
   where
-    go : Dec (A % 2 ≡ 0) → cond (eqb (A % 2) 0) (A + 1) (A - 1) < capacity
-    go (yes e) = rw (eq-eqb (A % 2) 0 e) (omega arith)
-    go (no n) = rw (ne-eqb (A % 2) 0 n) (omega arith)
+    go : Dec (A % 2 ≡ 0) → compl A < capacity
+    go (yes e) = rw (compl-plain A e) (omega arith)
+    go (no n) = rw (compl-negated A n) (omega arith)
 
 -- ---- past the end, and the empty set
 
@@ -88,6 +88,10 @@ module _ (f : ℕ → ℕ → ℕ) (g : Bool → Bool → Bool) (at-bit : (a b j
 pub with-room : (l : ℕ) (S : Set) → l < capacity → with l S ≡ add l S
 unfolding with
 with-room l S h = rw (lt-ltb l capacity h) refl
+
+pub without-at : (l : ℕ) (S : Set) (A : ℕ) → without l S A ≡ (S A && not (eqb A l))
+unfolding without
+without-at l S A = refl
 
 module _ (ws : List ℕ) (l : ℕ) where
   add-here : (S : Set) → add l S l ≡ true

@@ -13,3 +13,4 @@ pub mod Tests
 pub mod Conditions
 pub mod Pieces
 pub mod Said
+pub mod Outcomes

@@ -15,6 +15,7 @@ use Rattle.wfsx.specs.Model.{every, supported}
 use Rattle.litset.specs.Words.{capacity}
 use Rattle.book.specs.Book.{rows, entryOf}
 use Rattle.book.proofs.Rows.{rows-step, rows-end}
+use Rattle.wfsx.proofs.Supported.{every-none, every-first, supported-none, supported-first}
 use Rattle.search.specs.Questions.{questionOf}
 
 -- ---- rules
@@ -30,8 +31,7 @@ module _ {rule : ℕ → Rule} {f : Entry → Bool} {a n : ℕ} where
   -- what rule r gives, and the rest
   next-rule : {r : ℕ} → r < n → RulesLeft rule f a n r
       → supported (rows rule 0 n) f a ≡ (eqb (rule r .head) a && every f (rule r .body) || supported (rows rule (r + 1) (n - (r + 1))) f a)
-  unfolding supported
-  next-rule {r} h l = l .left ∙ ap (λ (P : List Rule). supported P f a) (rows-step rule r n h)
+  next-rule {r} h l = l .left ∙ ap (λ (P : List Rule). supported P f a) (rows-step rule r n h) ∙ supported-first (rule r) _ f a
 
   pub rules-other : {r : ℕ} → r < n → (rule r .head ≡ a → ⊥) → RulesLeft rule f a n r → RulesLeft rule f a n (r + 1)
   rules-other {r} h ne l = record { left = next-rule h l ∙ rw (ne-eqb (rule r .head) a ne) refl }
@@ -43,8 +43,7 @@ module _ {rule : ℕ → Rule} {f : Entry → Bool} {a n : ℕ} where
   rules-hold {r} h q e l = sym (next-rule h l ∙ rw (eq-eqb (rule r .head) a q, ← e) refl)
 
   pub rules-over : {r : ℕ} → n ≤ r → RulesLeft rule f a n r → false ≡ supported (rows rule 0 n) f a
-  unfolding supported
-  rules-over {r} h l = sym (l .left ∙ ap (λ (P : List Rule). supported P f a) (rows-end rule r n h))
+  rules-over {r} h l = sym (l .left ∙ ap (λ (P : List Rule). supported P f a) (rows-end rule r n h) ∙ supported-none f a)
 
 -- ---- the entries of a body
 
@@ -72,10 +71,9 @@ module _ {f : Entry → Bool} {es : List ℕ} {from end : ℕ} where
   -- what entry j gives, taken as a question, and the rest
   module _ {j e : ℕ} (h : j < end) (i : j < length es) (q : e ≡ getD es j 0) (l : EntriesLeft f es from end j) where
     next-entry : every f (bodyFrom es from end) ≡ (f (questionOf (e / 2 % capacity) (eqb (e % 2) 1)) && every f (bodyFrom es (j + 1) end))
-    unfolding every
     next-entry =
         let more : end - j ≡ suc (end - (j + 1)) = omega arith in
-        l .left ∙ rw (more, drop-cons es j 0 i, add-one j, question-stored e, q) refl
+        l .left ∙ rw (more, drop-cons es j 0 i, add-one j, question-stored e, q) (every-first f _ _)
 
     pub entries-more : true ≡ f (questionOf (e / 2 % capacity) (eqb (e % 2) 1)) → EntriesLeft f es from end (j + 1)
     entries-more v = record { left = next-entry ∙ rw (← v) refl }
@@ -84,8 +82,7 @@ module _ {f : Entry → Bool} {es : List ℕ} {from end : ℕ} where
     entries-fail v = sym (next-entry ∙ rw (← v) refl)
 
   pub entries-over : {j : ℕ} → (j < end → length es ≤ j) → EntriesLeft f es from end j → true ≡ every f (bodyFrom es from end)
-  unfolding every
-  entries-over {j} o l = sym (l .left ∙ ap (λ (m : List Entry). every f m) (go (decLt j end)))
+  entries-over {j} o l = sym (l .left ∙ ap (λ (m : List Entry). every f m) (go (decLt j end)) ∙ every-none f)
     where
       go : Dec (j < end) → bodyFrom es j end ≡ []
       go (yes h) = rw (drop-of-length-le es (o h)) (none (end - j))

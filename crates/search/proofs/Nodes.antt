@@ -7,17 +7,20 @@ use native.Mathlib.Omega.{arith}
 use lib.ListN.{length, getD}
 use borrow.Author.Tests.{ne-eqb}
 use Rattle.wfsx.specs.Sets.{Set, _∈_, ∅, add}
-use Rattle.wfsx.specs.Program.{compl, Entry, Rule, Program}
+use Rattle.wfsx.specs.Program.{compl, Entry, Rule, Program, positive, default}
 use Rattle.wfsx.specs.Model.{supported}
 use Rattle.wfsx.specs.Trees.{Tree, T, TU, child, tree, answer}
 use Rattle.wfsx.proofs.Sets.{refuted}
 use Rattle.wfsx.proofs.Facts.{supported-facts}
-use Rattle.wfsx.proofs.Trees.{one-set-unfolds, complement-once, first-way}
+use Rattle.wfsx.proofs.Trees.{one-set-unfolds, complement-once, first-way, answer-is}
 use Rattle.litset.specs.Words.{nWords, capacity, setOf, with}
 use Rattle.litset.proofs.Words.{member-below, with-room}
 use Rattle.book.specs.Limits.{maxRules}
 use Rattle.book.specs.Book.{rows, clamp, ruleAt, rulesIn, programOf}
 use Rattle.book.specs.declared.Book.{Book}
+use Rattle.wfsx.proofs.Supported.{supported-none, supported-first}
+use Rattle.book.proofs.Rows.{rows-none, rows-first}
+use Rattle.book.proofs.Heads.{program-of}
 use Rattle.search.specs.Questions.{questionOf}
 use Rattle.search.specs.Walk.{programIn, childIn}
 
@@ -103,9 +106,9 @@ module _ (heads starts entries : List ℕ) (count : ℕ) (facts : List ℕ) wher
   -- ---- a literal past the capacity
 
   unsupported : (A : ℕ) → capacity ≤ A → (f : Entry → Bool) (r n : ℕ) → supported (rows (ruleAt heads starts entries) r n) f A ≡ false
-  unfolding supported rows
-  unsupported A h f r zero = refl
-  unsupported A h f r (suc n) = rw (ne-eqb (getD heads r 0 % capacity) A (λ e. omega arith)) (unsupported A h f (suc r) n)
+  unsupported A h f r zero = rw (rows-none (ruleAt heads starts entries) r) (supported-none f A)
+  unsupported A h f r (suc n) =
+      rw (rows-first (ruleAt heads starts entries) r n, supported-first (ruleAt heads starts entries r) (rows (ruleAt heads starts entries) (suc r) n) f A, ne-eqb (getD heads r 0 % capacity) A (λ e. omega arith)) (unsupported A h f (suc r) n)
 
   module _ (len : length facts ≡ nWords) (A : ℕ) (h : capacity ≤ A) where
     nothing : (f : Entry → Bool) → supported program f A ≡ false
@@ -120,19 +123,18 @@ module _ (heads starts entries : List ℕ) (count : ℕ) (facts : List ℕ) wher
     tu-fails = complement-once program ∅ ∅ A ∙ rw (nothing (child (tree program) TU (add A ∅) ∅)) (and-false (not (tree program T ∅ ∅ (compl A))))
 
     pub past-capacity : (k : Tree) (d : Bool) → d ≡ answer program k (questionOf A d)
-    unfolding answer
-    past-capacity T false = sym t-fails
-    past-capacity T true = sym (first-way program ∅ ∅ A ∙ rw tu-fails refl)
-    past-capacity TU false = sym tu-fails
-    past-capacity TU true = rw t-fails refl
+    past-capacity T false = sym (answer-is program T (positive A) ∙ t-fails)
+    past-capacity T true = sym (answer-is program T (default A) ∙ first-way program ∅ ∅ A ∙ rw tu-fails refl)
+    past-capacity TU false = sym (answer-is program TU (positive A) ∙ tu-fails)
+    past-capacity TU true = sym (answer-is program TU (default A) ∙ rw t-fails refl)
 
 -- ---- the question: the tables of a whole book, and nothing above it
 
 pub program-whole : (b : Book) (count : ℕ) (facts : List ℕ) → count ≡ clamp maxRules (b .rules) → programIn (b .heads) (b .starts) (b .entries) count facts ≡ programOf b (setOf facts)
-unfolding programIn programOf
-program-whole b count facts e = rw e refl
+unfolding programIn
+program-whole b count facts e = rw e (sym (program-of b (setOf facts)))
 
 pub question-whole : (P Q : Program) → P ≡ Q → (k : Tree) (Y X : Set) → Y ≡ ∅ → X ≡ ∅ → (q : Entry) → childIn P k Y X q ≡ answer Q k q
-unfolding childIn answer
-question-whole P Q e T Y X y x q = rw (e, x) refl
-question-whole P Q e TU Y X y x q = rw (e, y, x) refl
+unfolding childIn
+question-whole P Q e T Y X y x q = rw (e, x) (sym (answer-is Q T q))
+question-whole P Q e TU Y X y x q = rw (e, y, x) (sym (answer-is Q TU q))

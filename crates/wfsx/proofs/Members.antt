@@ -45,6 +45,10 @@ members-are n S A =
 
 -- ---- how many are listed
 
+pub length-none : (S : Set) (b : ℕ) → length (membersFrom S b 0) ≡ 0
+unfolding membersFrom
+length-none S b = refl
+
 pub length-first : (S : Set) (b n : ℕ) → length (membersFrom S b (suc n)) ≡ cond (S b) 1 0 + length (membersFrom S (suc b) n)
 unfolding membersFrom
 length-first S b n = go (S b)
@@ -52,6 +56,15 @@ length-first S b n = go (S b)
     go : (t : Bool) → length (cond t (b ∷ membersFrom S (suc b) n) (membersFrom S (suc b) n)) ≡ cond t 1 0 + length (membersFrom S (suc b) n)
     go true = omega arith
     go false = omega arith
+
+one-most : (t : Bool) → cond t 1 0 ≤ 1
+one-most true = omega arith
+one-most false = omega arith
+
+pub length-most : (S : Set) (b n : ℕ) → length (membersFrom S b n) ≤ n
+unfolding membersFrom
+length-most S b zero = omega arith
+length-most S b (suc n) = omega (arith, length-first S b n, one-most (S b), length-most S (suc b) n)
 
 pub length-parts : (S : Set) (b m n : ℕ) → length (membersFrom S b (m + n)) ≡ length (membersFrom S b m) + length (membersFrom S (b + m) n)
 unfolding membersFrom

@@ -1,12 +1,12 @@
 -- Γ and Γs are the least closed sets of the reducts and antitone; so ΓΓs is monotone, the I(k) grow to M, and M is the least fixpoint of ΓΓs.
 use mathlib.Core.Path.{_≡_, refl, sym, _∙_, ap}
-use mathlib.Core.Bool.{not, _&&_}
+use mathlib.Core.Bool.{not, cond, _&&_}
 use Prim.Native.Nat.{ℕ, suc}
 use lib.ListN.{length}
 use borrow.Author.Tests.{not-true}
 use Rattle.wfsx.specs.Sets.{Set, _∈_, _∉_, _⊆_, ∅, _isIn_, iterate}
 use Rattle.wfsx.specs.Program.{compl, Program, seminormal}
-use Rattle.wfsx.specs.Model.{LeastClosed, holds, supported, Γ, Γs, I, M, N}
+use Rattle.wfsx.specs.Model.{LeastClosed, holds, supported, Γ, Γs, I, M, N, is-true, is-false, is-undefined, verdict}
 use Rattle.wfsx.proofs.Sets.{not-intro, and-l, and-r, and-intro}
 use Rattle.wfsx.proofs.Chain.{chain-ind, chain-grows, chain-inside, chain-stops}
 use Rattle.wfsx.proofs.Supported.{supported-map, holds-map, heads, supported-head, heads-most, supported-seminormal, closed-from, closed-to}
@@ -58,6 +58,10 @@ module _ (P : Program) where
 -- ---- Γs
 
 module _ (P : Program) where
+  pub Γs-is : (S : Set) → Γs P S ≡ Γ (seminormal P) S
+  unfolding Γs
+  Γs-is S = refl
+
   -- Γs(S) is closed under the rules of the seminormal version that S keeps, and inside every set that is
   pub Γs-least : (S : Set) → LeastClosed (seminormal P) S (Γs P S)
   unfolding Γs
@@ -94,6 +98,14 @@ module _ (P : Program) where
   pub ΓΓs-monotone : (S U : Set) → S ⊆ U → ΓΓs S ⊆ ΓΓs U
   ΓΓs-monotone S U f = Γ-antitone P (Γs-antitone f)
 
+  pub I-none : I P 0 ≡ ∅
+  unfolding I
+  I-none = refl
+
+  pub I-next : (k : ℕ) → I P (suc k) ≡ Γ P (Γs P (I P k))
+  unfolding I
+  I-next k = refl
+
   pub I-grows : (k : ℕ) → I P k ⊆ I P (suc k)
   unfolding I
   I-grows = chain-grows ΓΓs ΓΓs-monotone
@@ -114,6 +126,10 @@ module _ (P : Program) where
   pub N-is : N P ≡ Γs P (M P)
   unfolding N
   N-is = refl
+
+  pub verdict-is : (A : ℕ) → verdict P A ≡ cond (M P A) is-true (cond (N P A) is-undefined is-false)
+  unfolding verdict
+  verdict-is A = refl
 
   pub M-from-N : M P ≡ Γ P (N P)
   unfolding N

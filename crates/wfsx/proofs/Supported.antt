@@ -14,6 +14,24 @@ use Rattle.wfsx.specs.Program.{compl, Entry, positive, default, Rule, Pr
 use Rattle.wfsx.specs.Model.{Closed, holds, every, supported}
 use Rattle.wfsx.proofs.Sets.{clash, decided, not-intro, not-mono, and-l, and-r, and-intro, and-map, or-elim, or-l, or-r, or-map}
 
+-- ---- entry by entry, rule by rule
+
+pub every-none : (f : Entry → Bool) → every f [] ≡ true
+unfolding every
+every-none f = refl
+
+pub every-first : (f : Entry → Bool) (e : Entry) (es : List Entry) → every f (e ∷ es) ≡ (f e && every f es)
+unfolding every
+every-first f e es = refl
+
+pub supported-none : (f : Entry → Bool) (A : ℕ) → supported [] f A ≡ false
+unfolding supported
+supported-none f A = refl
+
+pub supported-first : (r : Rule) (P : Program) (f : Entry → Bool) (A : ℕ) → supported (r ∷ P) f A ≡ (eqb (r .head) A && every f (r .body) || supported P f A)
+unfolding supported
+supported-first r P f A = refl
+
 -- ---- a test that passes more
 
 module _ (f g : Entry → Bool) (more : (e : Entry) → f e ≡ true → g e ≡ true) where

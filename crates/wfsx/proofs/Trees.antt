@@ -11,7 +11,7 @@ use borrow.Author.Tests.{not-true}
 use Rattle.wfsx.specs.Sets.{Set, _∈_, _∉_, ∅, _∪_, add, _isIn_}
 use Rattle.wfsx.specs.Program.{compl, Entry, positive, default, Program}
 use Rattle.wfsx.specs.Model.{supported}
-use Rattle.wfsx.specs.Trees.{Tree, T, TU, Search, expansions, pruned, child, node, cut, depth, tree}
+use Rattle.wfsx.specs.Trees.{Tree, T, TU, Search, expansions, pruned, child, node, cut, depth, tree, answer}
 use Rattle.wfsx.proofs.Sets.{clash, refuted, same-if, and-l, and-r, add-∪, outside, outside-most, outside-add}
 use Rattle.wfsx.proofs.Supported.{heads, supported-head, heads-most, supported-seminormal}
 
@@ -108,6 +108,10 @@ module _ (P : Program) where
       below (suc n) k L G l = e k L G ∙ node-local s (tree P) k L G (λ j K H i. below n j K H (omega arith)) ∙ sym (tree-unfolds k L G)
 
   -- ---- laws that a walk of the trees may use
+
+  pub answer-is : (k : Tree) (q : Entry) → answer P k q ≡ child (tree P) k ∅ ∅ q
+  unfolding answer
+  answer-is k q = refl
 
   -- a node that holds
   pub holds-at : (k : Tree) (L G : Set) (A : ℕ) → A ∈ tree P k L G → (A ∉ pruned k L G) × (A isIn heads P) × (A ∈ supported (expansions k P) (child (tree P) k (add A L) G))

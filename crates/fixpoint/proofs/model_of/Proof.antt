@@ -7,6 +7,7 @@ use Rattle.litset.specs.Words.{setOf}
 use Rattle.book.specs.Book.{programOf}
 use Rattle.book.specs.Limits.{maxRules}
 use Rattle.book.proofs.Counts.{clamp-most}
+use Rattle.book.proofs.Heads.{program-of}
 use Rattle.fixpoint.specs.Result.{HalvesOf}
 use Rattle.fixpoint.proofs.model_of.Statement.{statement}
 use Rattle.fixpoint.proofs.model_of.Tie as tie
@@ -33,12 +34,11 @@ first-clash-requires : tie.Need-first-clash-requires
 first-clash-requires c κs = search needs
 
 returns : tie.Need-returns
-unfolding programOf
 returns c =
     let settled = c .before .before .before in
     let counted = settled .before .before .before .before .before .before .before .before in
     let args = counted .before .args in
-    let h : HalvesOf (programOf (args .t1) (setOf (args .facts .words))) (settled .settle .result) = rw (counted .rule-count .ensures) at (settled .settle .ensures) in
+    let h : HalvesOf (programOf (args .t1) (setOf (args .facts .words))) (settled .settle .result) = rw (program-of (args .t1) (setOf (args .facts .words))) (rw (counted .rule-count .ensures) at (settled .settle .ensures)) in
     record { truths = h .truths; nonfalse = h .nonfalse; clash = rw (h .truths) at (c .first-clash .ensures) }
 
 pub model-of-spec : {M : Type 1} → statement M

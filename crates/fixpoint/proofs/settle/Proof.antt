@@ -4,7 +4,7 @@ use borrow.Author.Needs.{needs}
 use mathlib.Core.Path.{_≡_, sym, _∙_}
 use mathlib.Core.Bool.{true≢false}
 use lib.ListN.{length}
-use Rattle.wfsx.specs.Model.{Γs}
+use Rattle.wfsx.proofs.Operators.{Γs-is}
 use Rattle.litset.specs.Words.{nWords, setOf}
 use Rattle.litset.proofs.Words.{member-room}
 use Rattle.book.specs.Book.{rulesIn, program}
@@ -35,24 +35,21 @@ equal-requires : tie.Need-equal-requires Inv-loop μ-loop
 equal-requires c κs = search needs
 
 returns : tie.Need-returns Inv-loop μ-loop
-unfolding Γs
 returns c =
     let turn = c .before .before .before .before in
     let same = c .before .equal .ensures .0 (c .if1 .taken) in
-    let found = round-end _ (turn .loop .inv) (c .before .before .before .gamma .ensures) (c .before .before .gamma2 .ensures) same in
+    let found = round-end _ (turn .loop .inv) (c .before .before .before .gamma .ensures ∙ sym (Γs-is _ _)) (c .before .before .gamma2 .ensures) same in
     record { truths = found .0; nonfalse = found .1 }
 
 loop-less : tie.Need-loop-less Inv-loop μ-loop
-unfolding Γs
 loop-less c =
     let ws = c .before .before .gamma2 .result .words in
     let size : length ws ≡ nWords = search needs in
-    round-falls _ (c .before .before .before .before .loop .inv) (c .before .before .before .gamma .ensures) (c .before .before .gamma2 .ensures)
+    round-falls _ (c .before .before .before .before .loop .inv) (c .before .before .before .gamma .ensures ∙ sym (Γs-is _ _)) (c .before .before .gamma2 .ensures)
     (member-room ws size) (λ same. true≢false (sym (c .before .equal .ensures .1 same) ∙ c .if1 .left))
 
 loop-again : tie.Need-loop-again Inv-loop μ-loop
-unfolding Γs
-loop-again c = round-more _ (c .before .before .before .before .loop .inv) (c .before .before .before .gamma .ensures) (c .before .before .gamma2 .ensures)
+loop-again c = round-more _ (c .before .before .before .before .loop .inv) (c .before .before .before .gamma .ensures ∙ sym (Γs-is _ _)) (c .before .before .gamma2 .ensures)
 
 pub settle-spec : {M : Type 1} → statement M
 settle-spec =
