@@ -1,12 +1,14 @@
 -- Laws of parts of a list, and of the look-up of a name.
-use mathlib.Core.Path.{_≡_, sym, _∙_}
+use mathlib.Core.Path.{_≡_, refl, sym, _∙_}
+use mathlib.Core.Logic.{_↔_}
 use mathlib.Core.Bool.{true, false}
-use mathlib.Core.List.{List, []}
-use Prim.Native.Nat.{ℕ, _+_, _-_, _*_, _/_, _≤_, _<_}
+use mathlib.Core.List.{List, [], _∷_}
+use Prim.Native.Nat.{ℕ, suc, _+_, _-_, _*_, _/_, _≤_, _<_}
 use native.Mathlib.Omega.{arith}
 use native.Mathlib.Numerals.{add-one}
 use lib.ListN.{length, take, drop, getD, length-drop, drop-of-length-le}
 use lib.Seq.{take-all, take-nil}
+use Rattle.scan.proofs.Bytes.{same-refl, same-equal}
 use Rattle.book.specs.Book.{rows, clamp, nameAt, sameName, findFrom}
 use Rattle.book.specs.Limits.{maxLength}
 use Rattle.book.specs.declared.Found.the-variants.{Nothing, At}
@@ -28,17 +30,34 @@ module _ (s : List ℕ) (from n : ℕ) where
 pub name-past : (text lengths : List ℕ) (k : ℕ) → length text / 16 < k → [] ≡ nameAt text lengths k
 name-past text lengths k h = part-past text (16 * k) (clamp maxLength (getD lengths k 0)) (omega arith)
 
--- ---- a loop over the names that has come to name k of n
+-- ---- a name among names
 
+-- two names are the same exactly where they are equal
+pub same-is-equal : (a b : List ℕ) → (sameName a b ≡ true) ↔ (a ≡ b)
+unfolding sameName
+same-is-equal a b = (same-equal a b, λ e. rw e (same-refl b))
+
+module _ (k : ℕ) (name : List ℕ) where
+  pub find-none : findFrom k name [] ≡ Nothing
+  unfolding findFrom
+  find-none = refl
+
+  module _ (m : List ℕ) (ms : List (List ℕ)) where
+    pub find-first : sameName m name ≡ true → findFrom k name (m ∷ ms) ≡ At k
+    unfolding findFrom
+    find-first e = rw e
+
+    pub find-later : sameName m name ≡ false → findFrom k name (m ∷ ms) ≡ findFrom (suc k) name ms
+    unfolding findFrom
+    find-later e = rw e
+
+-- for a loop over the names that has come to name k of n
 module _ (f : ℕ → List ℕ) (name : List ℕ) (k n : ℕ) where
   pub find-hit : k < n → sameName (f k) name ≡ true → findFrom k name (rows f k (n - k)) ≡ At k
-  unfolding findFrom
-  find-hit h e = simp (rows-step f k n h, e)
+  find-hit h e = rw (rows-step f k n h) (find-first k name _ _ e)
 
   pub find-miss : k < n → sameName (f k) name ≡ false → findFrom k name (rows f k (n - k)) ≡ findFrom (k + 1) name (rows f (k + 1) (n - (k + 1)))
-  unfolding findFrom
-  find-miss h e = simp (rows-step f k n h, e, add-one)
+  find-miss h e = rw (rows-step f k n h, find-later k name _ _ e, add-one)
 
   pub find-end : n ≤ k → findFrom k name (rows f k (n - k)) ≡ Nothing
-  unfolding findFrom
-  find-end h = simp (rows-end f k n h)
+  find-end h = rw (rows-end f k n h) (find-none k name)

@@ -1,5 +1,5 @@
 -- A table with one name or rule more is the table before with the stores that add it: each table is a list with zeros behind it, and what is
--- stored at the end of that list takes the place of as many zeros.
+-- stored at the end of that list takes the place of as many zeros. With no name and no rule a table is zeros.
 use mathlib.Core.Path.{_≡_, refl, sym, ap, ap₂, _∙_}
 use mathlib.Core.List.{List, [], _∷_, _++_, map, append-assoc, append-nil, List·Memᴰ·head, List·Memᴰ·tail}
 use Prim.Native.Nat.{ℕ, zero, suc, _+_, _-_, _*_, _≤_, _<_}
@@ -10,7 +10,7 @@ use lib.Seq.{sets, sets-eq, take-append-seam, drop-append-add}
 use Rattle.wfsx.specs.Sets.{_isIn_}
 use Rattle.wfsx.specs.Program.{Rule}
 use Rattle.book.specs.Limits.{maxNames, maxRules, maxEntries, maxLength}
-use Rattle.book.specs.Book.{padded, joined, codeOf, bodyCodes, startsFrom, textTable, lengthTable, headTable, startTable, entryTable}
+use Rattle.book.specs.Book.{padded, joined, codeOf, bodyCodes, startsFrom, textTable, lengthTable, headTable, startTable, entryTable, bookOf}
 
 -- ---- lists with zeros behind them
 
@@ -88,6 +88,14 @@ module _ (names : List (List ℕ)) (name : List ℕ) (room : length names < maxN
 abbrev pub allCodes : List Rule → List ℕ
 allCodes rules = joined (map bodyCodes rules)
 
+pub codes-none : allCodes [] ≡ []
+unfolding joined
+codes-none = refl
+
+pub codes-first : (r : Rule) (rules : List Rule) → allCodes (r ∷ rules) ≡ bodyCodes r ++ allCodes rules
+unfolding joined
+codes-first r rules = refl
+
 starts-more : (n : ℕ) (rules : List Rule) (r : Rule) → startsFrom n (rules ++ (r ∷ [])) ≡ startsFrom n rules ++ ((n + length (allCodes rules) + length (r .body)) ∷ [])
 unfolding startsFrom joined
 starts-more n [] r = ap (λ (k : ℕ). n ∷ k ∷ []) (omega arith)
@@ -119,3 +127,38 @@ module _ (rules : List Rule) (r : Rule) where
   entry-more h =
       store maxEntries (allCodes rules) (bodyCodes r) (length (allCodes rules)) refl (omega (arith, length-map (r .body) codeOf))
       ∙ ap (padded maxEntries) (sym (ap joined (map-more bodyCodes rules r) ∙ joined-more (map bodyCodes rules) (bodyCodes r)))
+
+-- ---- the book of given names and rules
+
+-- the tables of no names and no rules are zeros
+pub text-none : textTable [] ≡ replicate (maxLength * maxNames) 0
+unfolding joined
+text-none = refl
+
+pub lengths-none : lengthTable [] ≡ replicate maxNames 0
+lengths-none = refl
+
+pub heads-none : headTable [] ≡ replicate maxRules 0
+heads-none = refl
+
+pub starts-none : startTable [] ≡ replicate (maxRules + 1) 0
+unfolding startsFrom
+starts-none = refl
+
+pub entries-none : entryTable [] ≡ replicate maxEntries 0
+unfolding joined
+entries-none = refl
+
+-- the book of some names and rules has their counts and their tables
+pub book-is : (names : List (List ℕ)) (rules : List Rule)
+    → record {
+      names = length names;
+      rules = length rules;
+      text = textTable names;
+      lengths = lengthTable names;
+      heads = headTable rules;
+      starts = startTable rules;
+      entries = entryTable rules;
+    } ≡ bookOf names rules
+unfolding bookOf
+book-is names rules = refl

@@ -1,24 +1,22 @@
 -- Laws over the fields of a line: for a loop that has come to the field at place p, which ends at e, and for a field's name looked up.
-use mathlib.Core.Path.{_≡_, refl, sym, ap, _∙_}
-use mathlib.Core.Bool.{Bool, true, false, cond, true≢false}
+use mathlib.Core.Path.{_≡_, refl, ap, _∙_}
+use mathlib.Core.Bool.{Bool, true, false, cond}
 use mathlib.Core.List.{List}
 use Prim.Native.Nat.{ℕ, zero, suc, _+_, _-_, _*_, _≤_, _<_}
 use native.Mathlib.Omega.{arith}
 use lib.ListN.{length, take, drop}
 use lib.Dec.{eqb}
 use Rattle.wfsx.specs.Program.{positive, default}
-use Rattle.scan.specs.Text.{isName, lenTo, rest, tildes, minuses, nameOf, formOf}
-use Rattle.scan.specs.declared.Form.{Form}
-use Rattle.scan.specs.declared.Form.the-variants.{Malformed, Literal}
+use Rattle.scan.specs.Text.{lenTo, rest, tildes, minuses, nameOf}
 use Rattle.scan.proofs.Places.{rest-step, rest-none}
-use Rattle.scan.proofs.Bytes.{lead-most}
+use Rattle.scan.proofs.Forms.{lead-most}
 use Rattle.book.specs.Limits.{maxNames}
 use Rattle.book.specs.Book.{clamp, nameAt, namesIn, find, codeOf}
 use Rattle.book.specs.declared.Found.{Found}
 use Rattle.book.specs.declared.Found.the-variants.{Nothing, At}
 use Rattle.book.proofs.Counts.{clamp-most}
 use Rattle.book.proofs.Rows.{rows-length}
-use Rattle.reader.specs.File.{allFields, isLiteral, declared, isFound, numberIn, literalNumber, entryFrom}
+use Rattle.reader.specs.File.{allFields, declared, isFound, numberIn, literalNumber, entryFrom}
 use Rattle.reader.specs.Steps.{knownBy, knownOf}
 use Rattle.reader.proofs.Within.{found-below}
 use Rattle.reader.specs.declared.Known.{Known}
@@ -39,40 +37,6 @@ module _ (f : List ℕ → Bool) (l : List ℕ) (p : ℕ) where
   pub fields-end : length l < p → allFields f (rest 44 l p) ≡ true
   unfolding allFields
   fields-end h = ap (allFields f) (rest-none 44 l p h)
-
--- ---- the form of a field
-
-is-literal : Form → Bool
-is-literal Malformed = false
-is-literal (Literal a b) = true
-
-form-test : (f : List ℕ) → isLiteral f ≡ is-literal (formOf f)
-unfolding formOf is-literal
-form-test f = go (isName (nameOf f))
-  where
-    go : (t : Bool) → t ≡ is-literal (cond t (Literal (tildes f) (minuses f)) Malformed)
-    go true = refl
-    go false = refl
-
-pub malformed-form : (f : List ℕ) → formOf f ≡ Malformed → isLiteral f ≡ false
-unfolding is-literal
-malformed-form f e = form-test f ∙ ap is-literal e
-
-pub literal-form : (f : List ℕ) (a b : ℕ) → formOf f ≡ Literal a b → isLiteral f ≡ true
-unfolding is-literal
-literal-form f a b e = form-test f ∙ ap is-literal e
-
-tildes-in : Form → ℕ
-tildes-in Malformed = 0
-tildes-in (Literal a b) = a
-
-pub form-tildes : (f : List ℕ) (a b : ℕ) → formOf f ≡ Literal a b → tildes f ≡ a
-unfolding formOf tildes-in
-form-tildes f a b e = go (isName (nameOf f)) refl
-  where
-    go : (t : Bool) → isName (nameOf f) ≡ t → tildes f ≡ a
-    go true h = ap tildes-in (sym (ap (λ (x : Bool). cond x (Literal (tildes f) (minuses f)) Malformed) h) ∙ e)
-    go false h = absurd (true≢false (sym (literal-form f a b e) ∙ h))
 
 -- ---- a name looked up
 

@@ -12,8 +12,8 @@ use borrow.Author.Tests.{le-leb, lt-leb, lt-ltb, le-ltb}
 use Rattle.wfsx.specs.Program.{Rule}
 use Rattle.scan.specs.Text.{isName, nameOf}
 use Rattle.book.specs.Limits.{maxNames, maxRules, maxEntries, maxLength}
-use Rattle.book.specs.Book.{clamp, namesIn, joined, codeOf, bodyCodes, textTable, lengthTable, startTable}
-use Rattle.book.proofs.Tables.{allCodes, text-more, length-more, head-more, start-more, entry-more}
+use Rattle.book.specs.Book.{clamp, namesIn, codeOf, bodyCodes, textTable, lengthTable, startTable}
+use Rattle.book.proofs.Tables.{allCodes, codes-none, codes-first, text-more, length-more, head-more, start-more, entry-more}
 use Rattle.book.proofs.Counts.{clamp-least}
 use Rattle.book.proofs.Back.{names-back}
 use Rattle.reader.specs.File.{bodyLiterals, allFields, isLiteral, hasTilde, headTilde, declared, _when_else_}
@@ -100,9 +100,9 @@ bodies-more [] r = omega arith
 bodies-more (q ∷ rules) r = omega (arith, bodies-more rules r)
 
 pub codes-length : (rules : List Rule) → length (allCodes rules) ≡ bodyLiterals rules
-unfolding bodyLiterals joined
-codes-length [] = refl
-codes-length (r ∷ rules) = omega (arith, length-append (bodyCodes r) (allCodes rules), length-map (r .body) codeOf, codes-length rules)
+unfolding bodyLiterals
+codes-length [] = ap length codes-none
+codes-length (r ∷ rules) = rw codes-first (omega (arith, length-append (bodyCodes r) (allCodes rules), length-map (r .body) codeOf, codes-length rules))
 
 module _ {rules : List Rule} {count used : ℕ} {heads starts entries : List ℕ} (t : RuleTable rules count used heads starts entries) where
   pub rule-added : (r : Rule) (n : ℕ) (heads′ starts′ entries′ : List ℕ) → length (r .body) ≡ n → count < maxRules → used + n ≤ maxEntries

@@ -13,7 +13,7 @@ use Rattle.scan.specs.declared.Word.the-variants.{Name, Rule as RuleWord, End, 
 use Rattle.scan.proofs.Places.{rest-here, rest-step, rest-none, rest-within}
 use Rattle.book.specs.Book.{padded, joined, startsFrom, bookOf}
 use Rattle.book.specs.Limits.{maxNames, maxRules, maxEntries, maxLength}
-use Rattle.book.proofs.Tables.{padded-length, text-length, allCodes, starts-length}
+use Rattle.book.proofs.Tables.{padded-length, text-length, allCodes, starts-length, text-none, lengths-none, heads-none, starts-none, entries-none, book-is}
 use Rattle.reader.specs.File.{Content, nothingYet, bodyLiterals, allFields, declared, wrongFields, malformed, declaredBefore, usesUndeclared, beyondTable, faultOf, lineFault, ruleFrom, extended, withLine, accepted, refused, readLines, maxBytes, unended, linesOf, readFile}
 use Rattle.reader.specs.Steps.{NameTable, RuleTable, Holds, nameFault, ruleFault, LineRead, noCounts}
 use Rattle.reader.proofs.Held.{codes-length}
@@ -143,13 +143,13 @@ pub record ReadTo (b : List ℕ) (t : Counts) (at number : ℕ) (text lengths he
 
 pub read-none : (b : List ℕ)
     → ReadTo b noCounts 0 1 (replicate 2048 0) (replicate 128 0) (replicate 512 0) (replicate 513 0) (replicate 2048 0)
-unfolding joined startsFrom bodyLiterals
+unfolding bodyLiterals
 read-none b =
     record {
       content = nothingYet;
       held = record {
-        names-held = record { counted = refl; text-is = refl; lengths-are = refl; few = zero-le; short = λ n i. elim i [ ] };
-        rules-held = record { counted = refl; used-is = refl; heads-are = refl; starts-are = refl; entries-are = refl; few = zero-le; room = zero-le };
+        names-held = record { counted = refl; text-is = sym text-none; lengths-are = sym lengths-none; few = zero-le; short = λ n i. elim i [ ] };
+        rules-held = record { counted = refl; used-is = refl; heads-are = sym heads-none; starts-are = sym starts-none; entries-are = sym entries-none; few = zero-le; room = zero-le };
         ended-is = refl;
       };
       same = ap (readLines nothingYet 1) (rest-here 10 b 0 zero-le);
@@ -158,11 +158,10 @@ read-none b =
 -- the tables of what has been read are a book
 pub book-held : {d : Content} {t : Counts} {text lengths heads starts entries : List ℕ} → Holds d t text lengths heads starts entries
     → record { names = t .names; rules = t .rules; text = text; lengths = lengths; heads = heads; starts = starts; entries = entries } ≡ bookOf (d .names) (d .rules)
-unfolding bookOf
-book-held h =
+book-held {d} h =
     let n = h .names-held in
     let r = h .rules-held in
-    rw (n .counted, n .text-is, n .lengths-are, r .counted, r .heads-are, r .starts-are, r .entries-are) refl
+    rw (n .counted, n .text-is, n .lengths-are, r .counted, r .heads-are, r .starts-are, r .entries-are) (book-is (d .names) (d .rules))
 
 -- the tables have their sizes
 module _ {d : Content} {t : Counts} {text lengths heads starts entries : List ℕ} (h : Holds d t text lengths heads starts entries) where

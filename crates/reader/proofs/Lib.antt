@@ -1,7 +1,6 @@
 -- Laws of the reader's definitions.
 pub mod Faults
 pub mod Lines
-pub mod Words
 pub mod Within
 pub mod Fields
 pub mod Stored

@@ -2,7 +2,7 @@
 -- by commas: what `split` gives puts together to the bytes again, and bytes that are put together from such pieces are split into these.
 use mathlib.Core.Path.{_≡_, refl, sym, ap, _∙_, subst}
 use mathlib.Core.Logic.{inl, inr, ⊎-elim, _↔_}
-use mathlib.Core.Bool.{Bool, true, false, cond}
+use mathlib.Core.Bool.{Bool, true, false}
 use mathlib.Core.List.{List, [], _∷_, _++_, List·Memᴰ·head, List·Memᴰ·tail, List·Memᴰ·not-nil, List·Memᴰ·cases-cons}
 use Prim.Native.Nat.{ℕ, suc, _-_, _<_}
 use native.Mathlib.Omega.{arith}
@@ -13,7 +13,7 @@ use lib.Seq.{take-suc, take-length}
 use borrow.Author.Tests.{eqb-true, eqb-false, eq-eqb, ne-eqb}
 use Rattle.wfsx.specs.Sets.{_isIn_}
 use Rattle.scan.specs.Text.{onto, split, fields}
-use Rattle.scan.proofs.Places.{split-some}
+use Rattle.scan.proofs.Places.{split-none, split-stop, split-byte, split-some}
 use Rattle.reader.specs.File.{linesOf}
 use Rattle.reader.specs.Conditions.{LastLineOpen, closed, FreeOf}
 
@@ -31,38 +31,39 @@ module _ (stop : ℕ) where
       here p i e = ⊎-elim (λ s. n (sym s)) (f q (List·Memᴰ·head refl)) (List·Memᴰ·cases-cons (rw e at i))
 
   split-closed : (s : List ℕ) → (closed stop (split stop s) ≡ s ++ stop ∷ []) × FreeOf stop (split stop s)
-  unfolding closed split
-  split-closed [] = (refl, λ p m i. ⊎-elim (λ e. List·Memᴰ·not-nil (rw e at i)) (λ k. List·Memᴰ·not-nil k) (List·Memᴰ·cases-cons m))
+  unfolding closed
+  split-closed [] =
+      rw (split-none stop) (refl, λ p m i. ⊎-elim (λ e. List·Memᴰ·not-nil (rw e at i)) (λ k. List·Memᴰ·not-nil k) (List·Memᴰ·cases-cons m))
   split-closed (x ∷ xs) = go (split-closed xs) (eqb x stop) refl
     where
       go : (closed stop (split stop xs) ≡ xs ++ stop ∷ []) × FreeOf stop (split stop xs) → (t : Bool) → eqb x stop ≡ t
-          → (closed stop (cond t ([] ∷ split stop xs) (onto x (split stop xs))) ≡ x ∷ (xs ++ stop ∷ [])) × FreeOf stop (cond t ([] ∷ split stop xs) (onto x (split stop xs)))
-      go ih true e = (
+          → (closed stop (split stop (x ∷ xs)) ≡ x ∷ (xs ++ stop ∷ [])) × FreeOf stop (split stop (x ∷ xs))
+      go ih true e = rw (split-stop stop x xs e) (
         rw (eqb-true x stop e, ih .0),
         λ p m i. ⊎-elim (λ q. List·Memᴰ·not-nil (rw q at i)) (λ k. ih .1 p k i) (List·Memᴰ·cases-cons m),
       )
-      go ih false e = (
+      go ih false e = rw (split-byte stop x xs e) (
         closed-onto x (split stop xs) (split-some stop xs) ∙ ap (λ (l : List ℕ). x ∷ l) (ih .0),
         free-onto x (split stop xs) (eqb-false x stop e) (split-some stop xs) (ih .1),
       )
 
   split-unique : (s : List ℕ) (ps : List (List ℕ)) → closed stop ps ≡ s ++ stop ∷ [] → FreeOf stop ps → split stop s ≡ ps
-  unfolding closed split
+  unfolding closed
   split-unique [] [] e f = let bad = ap length e in absurd (omega arith)
-  split-unique [] ([] ∷ []) e f = refl
+  split-unique [] ([] ∷ []) e f = split-none stop
   split-unique [] ([] ∷ p ∷ ps) e f = let bad = ap length e in absurd (omega (arith, length-append p (stop ∷ closed stop ps)))
   split-unique [] ((y ∷ p) ∷ ps) e f = let bad = ap length e in absurd (omega (arith, length-append p (stop ∷ closed stop ps)))
   split-unique (x ∷ xs) [] e f = let bad = ap length e in absurd (omega arith)
   split-unique (x ∷ xs) ([] ∷ ps) e f =
       let same : stop ≡ x = cc in
       let rest : closed stop ps ≡ xs ++ stop ∷ [] = cc in
-      rw (eq-eqb x stop (sym same)) (ap (λ (l : List (List ℕ)). [] ∷ l) (split-unique xs ps rest (λ p m i. f p (List·Memᴰ·tail m) i)))
+      rw (split-stop stop x xs (eq-eqb x stop (sym same))) (ap (λ (l : List (List ℕ)). [] ∷ l) (split-unique xs ps rest (λ p m i. f p (List·Memᴰ·tail m) i)))
   split-unique (x ∷ xs) ((y ∷ p) ∷ ps) e f =
       let same : y ≡ x = cc in
       let rest : p ++ stop ∷ closed stop ps ≡ xs ++ stop ∷ [] = cc in
       let other : x ≡ stop → ⊥ = λ q. f (y ∷ p) (List·Memᴰ·head refl) (List·Memᴰ·head (sym (same ∙ q))) in
       let free : FreeOf stop (p ∷ ps) = λ q m i. ⊎-elim (λ z. f (y ∷ p) (List·Memᴰ·head refl) (List·Memᴰ·tail (rw z at i))) (λ k. f q (List·Memᴰ·tail k) i) (List·Memᴰ·cases-cons m) in
-      rw (ne-eqb x stop other, split-unique xs (p ∷ ps) rest free, same)
+      rw (split-byte stop x xs (ne-eqb x stop other), split-unique xs (p ∷ ps) rest free, same)
 
   pub split-is : (s : List ℕ) (ps : List (List ℕ)) → (split stop s ≡ ps) ↔ ((closed stop ps ≡ s ++ stop ∷ []) × FreeOf stop ps)
   split-is s ps = (λ e. subst (λ (l : List (List ℕ)). (closed stop l ≡ s ++ stop ∷ []) × FreeOf stop l) e (split-closed s), λ c. split-unique s ps (c .0) (c .1))

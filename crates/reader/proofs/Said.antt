@@ -16,11 +16,11 @@ use Rattle.wfsx.proofs.Sets.{clash}
 use Rattle.scan.specs.Text.{fields, wordOf, nameWord, endWord}
 use Rattle.scan.specs.declared.Word.{Word}
 use Rattle.scan.specs.declared.Word.the-variants.{Name, Rule as RuleWord, End, Unknown}
+use Rattle.scan.proofs.Words.{IsWord, first-is, word-is}
 use Rattle.reader.specs.File.{Content, nothingYet, wrongFields, lineFault, extended, withLine, accepted, linesOf, readFile}
 use Rattle.reader.specs.Conditions.{_startsWith_, saidBy, closed}
 use Rattle.reader.proofs.Faults.{line-passes}
 use Rattle.reader.proofs.Lines.{Faultless, file-read}
-use Rattle.reader.proofs.Words.{IsWord, first-is, word-is}
 use Rattle.reader.proofs.Pieces.{fields-are}
 
 -- a line that has it

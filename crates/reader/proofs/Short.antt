@@ -15,13 +15,14 @@ use Rattle.wfsx.proofs.Sets.{and-l, and-r}
 use Rattle.scan.specs.Text.{onto, split, fields, isName, wordOf, tildes, minuses, nameOf, nameWord, ruleWord, endWord}
 use Rattle.scan.specs.declared.Word.{Word}
 use Rattle.scan.specs.declared.Word.the-variants.{Name, Rule as RuleWord, End, Unknown}
-use Rattle.scan.proofs.Places.{split-some}
+use Rattle.scan.proofs.Places.{split-none, split-stop, split-byte, split-some}
+use Rattle.scan.proofs.Bytes.{name-fits}
+use Rattle.scan.proofs.Words.{IsWord, first-is}
+use Rattle.scan.proofs.Forms.{lead-most}
 use Rattle.reader.specs.File.{Content, nothingYet, bodyLiterals, allFields, isLiteral, hasTilde, wrongFields, malformed, lineFault, entryFrom, ruleFrom, extended, withLine, accepted, maxBytes, linesOf, readFile}
 use Rattle.reader.specs.Conditions.{saidBy}
 use Rattle.reader.proofs.Faults.{Passes, line-passes, neither}
 use Rattle.reader.proofs.Lines.{Faultless, file-read}
-use Rattle.reader.proofs.Words.{IsWord, first-is}
-use Rattle.scan.proofs.Bytes.{name-fits, lead-most}
 use Rattle.reader.proofs.Within.{Within, within-nothing, within-lines, literals-append}
 
 -- ---- pieces, each with the stop behind it
@@ -37,13 +38,13 @@ total-onto x (p ∷ ps) h = omega arith
 
 -- the last piece has no stop behind it
 pub split-total : (stop : ℕ) (s : List ℕ) → byteCount (split stop s) ≡ suc (length s)
-unfolding byteCount split
-split-total stop [] = refl
-split-total stop (x ∷ xs) = go (eqb x stop) (split-total stop xs)
+unfolding byteCount
+split-total stop [] = ap byteCount (split-none stop)
+split-total stop (x ∷ xs) = go (split-total stop xs) (eqb x stop) refl
   where
-    go : (t : Bool) → byteCount (split stop xs) ≡ suc (length xs) → byteCount (cond t ([] ∷ split stop xs) (onto x (split stop xs))) ≡ suc (suc (length xs))
-    go true e = omega arith
-    go false e = total-onto x (split stop xs) (split-some stop xs) ∙ ap suc e
+    go : byteCount (split stop xs) ≡ suc (length xs) → (t : Bool) → eqb x stop ≡ t → byteCount (split stop (x ∷ xs)) ≡ suc (suc (length xs))
+    go ih true e = rw (split-stop stop x xs e) (omega arith)
+    go ih false e = rw (split-byte stop x xs e) (total-onto x (split stop xs) (split-some stop xs) ∙ ap suc ih)
 
 -- ---- literals
 

@@ -15,13 +15,13 @@ use Rattle.scan.specs.Text.{isText, classOf, isLetter, inName, allBytes, isName
 use Rattle.scan.specs.declared.Class.the-variants.{Letter, Digit, Underscore, Other}
 use Rattle.scan.specs.declared.Word.{Word}
 use Rattle.scan.specs.declared.Word.the-variants.{Name, Rule as RuleWord, End, Unknown}
-use Rattle.scan.proofs.Bytes.{same-equal, same-is}
+use Rattle.scan.proofs.Bytes.{bytes-none, bytes-first, name-parts, parts-name}
+use Rattle.scan.proofs.Words.{IsWord, first-is, word-is}
 use Rattle.book.specs.Limits.{maxNames, maxRules, maxEntries}
 use Rattle.book.specs.Book.{sameName, findFrom}
-use Rattle.book.specs.declared.Found.the-variants.{At}
+use Rattle.book.proofs.Lookup.{same-is-equal, find-none, find-first, find-later}
 use Rattle.reader.specs.File.{Content, bodyLiterals, allFields, isLiteral, hasTilde, isFound, declared, wrongFields, headTilde, malformed, declaredBefore, usesUndeclared, beyondTable, maxBytes, unended}
 use Rattle.reader.specs.Conditions.{LetterByte, NameByte, NameText, Optional, LiteralText, TooLong, StrangeByte, LastLineOpen, SomeField, FieldsWrong, FormWrong, NameTaken, NameMissing, TableFull}
-use Rattle.reader.proofs.Words.{IsWord, first-is, word-is}
 use Rattle.reader.proofs.Faults.{neither, each-field, each-passes, all-pass, fails-where}
 
 -- ---- decided statements
@@ -51,8 +51,8 @@ pub too-long : (file : List ℕ) → (ltb maxBytes (length file) ≡ true) ↔ T
 too-long file = (ltb-true maxBytes (length file), lt-ltb maxBytes (length file))
 
 pub strange-byte : (file : List ℕ) → (not (allBytes isText file) ≡ true) ↔ StrangeByte file
-unfolding allBytes
-strange-byte file = fails-where isText (allBytes isText) refl (λ x xs. refl) file (λ b. (b ≡ 10) ⊎ ((32 ≤ b) × (b ≤ 126)) → ⊥) (λ b m. fails (isText b) (text b))
+strange-byte file =
+    fails-where isText (allBytes isText) (bytes-none isText) (bytes-first isText) file (λ b. (b ≡ 10) ⊎ ((32 ≤ b) × (b ≤ 126)) → ⊥) (λ b m. fails (isText b) (text b))
   where
     text : (b : ℕ) → (isText b ≡ true) ↔ ((b ≡ 10) ⊎ ((32 ≤ b) × (b ≤ 126)))
     text b = or-is (eqb b 10) (leb 32 b && leb b 126) (eqb-is b 10) (and-is (leb 32 b) (leb b 126) (leb-is 32 b) (leb-is b 126))
@@ -94,32 +94,32 @@ letter-named : (b : ℕ) → LetterByte b → NameByte b
 letter-named b l = inl l
 
 pub name-is : (n : List ℕ) → (isName n ≡ true) ↔ NameText n
-unfolding isName allBytes
-name-is [] = (λ e. absurd (true≢false (sym e)), λ t. let h = t .nonempty in absurd (omega arith))
+name-is [] = (λ e. let h = name-parts [] e .some in absurd (omega arith), λ t. let h = t .nonempty in absurd (omega arith))
 name-is (x ∷ xs) = (there, back)
   where
     named : ℕ → Bool
     named b = inName (classOf b)
 
-    there : leb (length xs) 15 && (isLetter (classOf x) && allBytes named xs) ≡ true → NameText (x ∷ xs)
+    there : isName (x ∷ xs) ≡ true → NameText (x ∷ xs)
     there e =
-        let few = leb-true (length xs) 15 (and-l (leb (length xs) 15) (isLetter (classOf x) && allBytes named xs) e) in
-        let rest = and-r (leb (length xs) 15) (isLetter (classOf x) && allBytes named xs) e in
-        let first : LetterByte x = letter-is x .0 (and-l (isLetter (classOf x)) (allBytes named xs) rest) in
-        let others = and-r (isLetter (classOf x)) (allBytes named xs) rest in
+        let p = name-parts (x ∷ xs) e in
+        let first : LetterByte x = letter-is x .0 (p .letter) in
         record {
-          nonempty = omega arith;
-          short = omega arith;
-          bytes = λ b m. ⊎-elim (λ q. rw q (letter-named x first)) (λ i. byte-is b .0 (each-passes named (allBytes named) refl (λ y ys. refl) i others)) (List·Memᴰ·cases-cons m);
+          nonempty = p .some;
+          short = p .few;
+          bytes = λ b m.
+              ⊎-elim (λ q. rw q (letter-named x first)) (λ i. byte-is b .0 (each-passes named (allBytes named) (bytes-none named) (bytes-first named) i (p .others))) (List·Memᴰ·cases-cons m);
           begins = first;
         }
 
-    back : NameText (x ∷ xs) → leb (length xs) 15 && (isLetter (classOf x) && allBytes named xs) ≡ true
+    back : NameText (x ∷ xs) → isName (x ∷ xs) ≡ true
     back t =
-        let h = t .short in
-        and-intro (leb (length xs) 15) (isLetter (classOf x) && allBytes named xs) (le-leb (length xs) 15 (omega arith))
-        (and-intro (isLetter (classOf x)) (allBytes named xs) (letter-is x .1 (t .begins))
-        (all-pass named (allBytes named) refl (λ y ys. refl) xs (λ b m. byte-is b .1 (t .bytes b (List·Memᴰ·tail m)))))
+        parts-name (x ∷ xs) (record {
+          some = t .nonempty;
+          few = t .short;
+          letter = letter-is x .1 (t .begins);
+          others = all-pass named (allBytes named) (bytes-none named) (bytes-first named) xs (λ b m. byte-is b .1 (t .bytes b (List·Memᴰ·tail m)));
+        })
 
 lead-taken : (b : ℕ) (s : List ℕ) → Optional b s (drop (lead b s) s)
 lead-taken b [] = inl refl
@@ -155,21 +155,15 @@ not-literal f =
 
 -- ---- declared names
 
-same-is-equal : (a b : List ℕ) → (sameName a b ≡ true) ↔ (a ≡ b)
-unfolding sameName
-same-is-equal a b = (same-equal a b, λ e. sym (same-is true a b (λ _. e, λ _. refl)))
-
 found-is : (k : ℕ) (n : List ℕ) (names : List (List ℕ)) → (isFound (findFrom k n names) ≡ true) ↔ (n isIn names)
-unfolding findFrom
-found-is k n [] = (λ e. absurd (true≢false (sym e)), λ m. absurd (List·Memᴰ·not-nil m))
-found-is k n (m ∷ ms) = go (sameName m n) (same-is-equal m n) (found-is (suc k) n ms)
+found-is k n [] = rw (find-none k n) (λ e. absurd (true≢false (sym e)), λ m. absurd (List·Memᴰ·not-nil m))
+found-is k n (m ∷ ms) = go (found-is (suc k) n ms) (sameName m n) refl
   where
-    go : (t : Bool) → ((t ≡ true) ↔ (m ≡ n)) → ((isFound (findFrom (suc k) n ms) ≡ true) ↔ (n isIn ms))
-        → (isFound (cond t (At k) (findFrom (suc k) n ms)) ≡ true) ↔ (n isIn m ∷ ms)
-    go true d rest = (λ e. List·Memᴰ·head (sym (d .0 refl)), λ i. refl)
-    go false d rest = (
+    go : ((isFound (findFrom (suc k) n ms) ≡ true) ↔ (n isIn ms)) → (t : Bool) → sameName m n ≡ t → (isFound (findFrom k n (m ∷ ms)) ≡ true) ↔ (n isIn m ∷ ms)
+    go rest true p = rw (find-first k n m ms p) (λ e. List·Memᴰ·head (sym (same-is-equal m n .0 p)), λ i. refl)
+    go rest false p = rw (find-later k n m ms p) (
       λ e. List·Memᴰ·tail (rest .0 e),
-      λ i. ⊎-elim (λ e. absurd (true≢false (sym (d .1 (sym e))))) (rest .1) (List·Memᴰ·cases-cons i),
+      λ i. ⊎-elim (λ e. absurd (clash (same-is-equal m n .1 (sym e)) p)) (rest .1) (List·Memᴰ·cases-cons i),
     )
 
 pub declared-is : (names : List (List ℕ)) (n : List ℕ) → (declared names n ≡ true) ↔ (n isIn names)

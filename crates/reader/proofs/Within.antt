@@ -15,10 +15,10 @@ use Rattle.wfsx.proofs.Sets.{and-r}
 use Rattle.scan.specs.Text.{fields, isName, wordOf, tildes, nameOf}
 use Rattle.scan.specs.declared.Word.{Word}
 use Rattle.scan.specs.declared.Word.the-variants.{Name, Rule as RuleWord, End, Unknown}
+use Rattle.scan.proofs.Forms.{lead-most}
 use Rattle.book.specs.Limits.{maxNames, maxRules, maxEntries}
 use Rattle.book.specs.Book.{sameName, findFrom}
-use Rattle.book.specs.declared.Found.the-variants.{At}
-use Rattle.scan.proofs.Bytes.{lead-most}
+use Rattle.book.proofs.Lookup.{find-none, find-first, find-later}
 use Rattle.book.proofs.Back.{literalIn}
 use Rattle.reader.specs.File.{Content, nothingYet, bodyLiterals, allFields, isFound, declared, wrongFields, malformed, usesUndeclared, beyondTable, lineFault, numberIn, literalNumber, entryFrom, hasTilde, ruleFrom, extended, withLine, accepted, linesOf, readFile}
 use Rattle.reader.specs.Conditions.{saidBy}
@@ -38,14 +38,13 @@ pub record Within (d : Content) : Type 0 where
 
 -- a name that is found has a number below the count of names
 pub found-below : (k : ℕ) (n : List ℕ) (names : List (List ℕ)) → isFound (findFrom k n names) ≡ true → numberIn (findFrom k n names) < k + length names
-unfolding findFrom
-found-below k n [] e = absurd (true≢false (sym e))
-found-below k n (m ∷ ms) e = go (sameName m n) (found-below (suc k) n ms) e
+found-below k n [] e = absurd (true≢false (sym (rw (find-none k n) at e)))
+found-below k n (m ∷ ms) e = go (found-below (suc k) n ms) (sameName m n) refl e
   where
-    go : (t : Bool) → (isFound (findFrom (suc k) n ms) ≡ true → numberIn (findFrom (suc k) n ms) < suc k + length ms)
-        → isFound (cond t (At k) (findFrom (suc k) n ms)) ≡ true → numberIn (cond t (At k) (findFrom (suc k) n ms)) < k + suc (length ms)
-    go true rest h = omega arith
-    go false rest h = let r = rest h in omega arith
+    go : (isFound (findFrom (suc k) n ms) ≡ true → numberIn (findFrom (suc k) n ms) < suc k + length ms) → (t : Bool) → sameName m n ≡ t
+        → isFound (findFrom k n (m ∷ ms)) ≡ true → numberIn (findFrom k n (m ∷ ms)) < k + suc (length ms)
+    go rest true p = rw (find-first k n m ms p) (λ h. omega arith)
+    go rest false p = rw (find-later k n m ms p) (λ h. omega (arith, rest h))
 
 pub literal-below : (names : List (List ℕ)) (f : List ℕ) → declared names (nameOf f) ≡ true → literalNumber names f < 2 * length names
 unfolding literalNumber

@@ -1,24 +1,31 @@
--- Laws of tests over bytes, names, words and the form of a literal.
-use mathlib.Core.Path.{_≡_, refl, sym, ap, ap₂, _∙_}
-use mathlib.Core.Bool.{Bool, true, false, cond, _&&_, true≢false}
+-- Laws of tests over bytes, of names and of two lists with the same bytes.
+use mathlib.Core.Path.{_≡_, refl, sym, ap, _∙_}
+use mathlib.Core.Bool.{Bool, true, false, _&&_, true≢false}
 use mathlib.Core.List.{List, [], _∷_}
 use Prim.Native.Nat.{ℕ, suc, _+_, _-_, _≤_, _<_}
 use native.Mathlib.Omega.{arith}
-use lib.ListN.{length, getD, take, drop, length-drop, drop-of-length-le}
-use lib.Seq.{take-all, drop-drop}
+use lib.ListN.{length, getD, take, drop, drop-of-length-le}
+use lib.Seq.{take-all}
 use lib.Dec.{eqb, leb}
-use borrow.Author.Tests.{eq-eqb, ne-eqb, le-leb, lt-leb, eqb-true, leb-true}
-use Rattle.scan.specs.Text.{classOf, isLetter, inName, allBytes, isName, sameBytes, nameWord, ruleWord, endWord, wordOf, lead, tildes, minuses, nameOf, formOf}
-use Rattle.scan.specs.declared.Word.the-variants.{Name, Rule, End, Unknown}
-use Rattle.scan.specs.declared.Form.the-variants.{Malformed, Literal}
+use borrow.Author.Tests.{eq-eqb, le-leb, lt-leb, eqb-true, leb-true}
+use Rattle.scan.specs.Text.{classOf, isLetter, inName, allBytes, isName, sameBytes}
 use Rattle.scan.proofs.Places.{left-at}
 
--- ---- every byte, for a loop that has come to place i
+-- ---- every byte
 
+module _ (f : ℕ → Bool) where
+  pub bytes-none : allBytes f [] ≡ true
+  unfolding allBytes
+  bytes-none = refl
+
+  pub bytes-first : (x : ℕ) (xs : List ℕ) → allBytes f (x ∷ xs) ≡ (f x && allBytes f xs)
+  unfolding allBytes
+  bytes-first x xs = refl
+
+-- for a loop that has come to place i
 module _ (f : ℕ → Bool) (s : List ℕ) (i : ℕ) where
   bytes-step : i < length s → allBytes f (drop i s) ≡ (f (getD s i 0) && allBytes f (drop (i + 1) s))
-  unfolding allBytes
-  bytes-step h = rw (left-at s i h)
+  bytes-step h = rw (left-at s i h) (bytes-first f (getD s i 0) (drop (i + 1) s))
 
   pub bytes-stop : i < length s → f (getD s i 0) ≡ false → allBytes f (drop i s) ≡ false
   bytes-stop h e = rw (bytes-step h, e)
@@ -27,8 +34,7 @@ module _ (f : ℕ → Bool) (s : List ℕ) (i : ℕ) where
   bytes-go h e = rw (bytes-step h, e)
 
   pub bytes-end : length s ≤ i → allBytes f (drop i s) ≡ true
-  unfolding allBytes
-  bytes-end h = rw (drop-of-length-le s h)
+  bytes-end h = rw (drop-of-length-le s h) (bytes-none f)
 
 -- ---- names, by the tests in their order
 
@@ -53,25 +59,40 @@ unfolding isName
 name-rest [] n h e = absurd (n refl)
 name-rest (x ∷ xs) n h e = rw (le-leb (length xs) 15 (omega arith), e, take-all (suc (length xs) - 1) xs (omega arith))
 
-pub name-fits : (s : List ℕ) → isName s ≡ true → (1 ≤ length s) × (length s ≤ 16)
-unfolding isName
-name-fits [] e = absurd (true≢false (sym e))
-name-fits (x ∷ xs) e = go (leb (length xs) 15) refl
-  where
-    go : (t : Bool) → leb (length xs) 15 ≡ t → (1 ≤ suc (length xs)) × (suc (length xs) ≤ 16)
-    go true h = (omega arith, omega (arith, leb-true (length xs) 15 h))
-    go false h = absurd (true≢false (sym (ap (λ (b : Bool). b && (isLetter (classOf x) && allBytes (λ y. inName (classOf y)) xs)) (sym h) ∙ e)))
-
--- ---- the same bytes
-
-same-refl : (a : List ℕ) → sameBytes a a ≡ true
-unfolding sameBytes
-same-refl [] = refl
-same-refl (x ∷ xs) = rw (eq-eqb x x refl, same-refl xs)
+-- what a name is made of: 1 to 16 bytes, a letter and then bytes that a name may have
+pub record NameParts (s : List ℕ) : Type 0 where
+  pub some : 1 ≤ length s
+  pub few : length s ≤ 16
+  pub letter : isLetter (classOf (getD s 0 0)) ≡ true
+  pub others : allBytes (λ b. inName (classOf b)) (drop 1 s) ≡ true
 
 both : (a b : Bool) → a && b ≡ true → (a ≡ true) × (b ≡ true)
 both true b e = (refl, e)
 both false b e = absurd (true≢false (sym e))
+
+pub name-parts : (s : List ℕ) → isName s ≡ true → NameParts s
+unfolding isName
+name-parts [] e = absurd (true≢false (sym e))
+name-parts (x ∷ xs) e =
+    let tail = allBytes (λ b. inName (classOf b)) xs in
+    let h = both (leb (length xs) 15) (isLetter (classOf x) && tail) e in
+    let k = both (isLetter (classOf x)) tail (h .1) in
+    record { some = omega arith; few = omega (arith, leb-true (length xs) 15 (h .0)); letter = k .0; others = k .1 }
+
+pub parts-name : (s : List ℕ) → NameParts s → isName s ≡ true
+unfolding isName
+parts-name [] p = let h = p .some in absurd (omega arith)
+parts-name (x ∷ xs) p = rw (le-leb (length xs) 15 (let h = p .few in omega arith), p .letter, p .others)
+
+pub name-fits : (s : List ℕ) → isName s ≡ true → (1 ≤ length s) × (length s ≤ 16)
+name-fits s e = let p = name-parts s e in (p .some, p .few)
+
+-- ---- the same bytes
+
+pub same-refl : (a : List ℕ) → sameBytes a a ≡ true
+unfolding sameBytes
+same-refl [] = refl
+same-refl (x ∷ xs) = rw (eq-eqb x x refl, same-refl xs)
 
 pub same-equal : (a b : List ℕ) → sameBytes a b ≡ true → a ≡ b
 unfolding sameBytes
@@ -82,63 +103,10 @@ same-equal (x ∷ xs) (y ∷ ys) e =
     let h = both (eqb x y) (sameBytes xs ys) e in
     cc (eqb-true x y (h .0), same-equal xs ys (h .1))
 
-refuted : (t : Bool) → (t ≡ true → ⊥) → t ≡ false
+pub refuted : (t : Bool) → (t ≡ true → ⊥) → t ≡ false
 refuted true h = absurd (h refl)
 refuted false h = refl
 
 pub same-is : (r : Bool) (a b : List ℕ) → (r ≡ true → a ≡ b) × (a ≡ b → r ≡ true) → r ≡ sameBytes a b
 same-is true a b h = sym (ap (sameBytes a) (sym (h .0 refl)) ∙ same-refl a)
 same-is false a b h = sym (refuted (sameBytes a b) (λ e. true≢false (sym (h .1 (same-equal a b e)))))
-
--- ---- the first field
-
-module _ (f : List ℕ) where
-  pub word-name : sameBytes f nameWord ≡ true → wordOf f ≡ Name
-  unfolding wordOf
-  word-name e = rw e
-
-  pub word-rule : sameBytes f nameWord ≡ false → sameBytes f ruleWord ≡ true → wordOf f ≡ Rule
-  unfolding wordOf
-  word-rule a e = rw (a, e)
-
-  pub word-end : sameBytes f nameWord ≡ false → sameBytes f ruleWord ≡ false → sameBytes f endWord ≡ true → wordOf f ≡ End
-  unfolding wordOf
-  word-end a b e = rw (a, b, e)
-
-  pub word-unknown : sameBytes f nameWord ≡ false → sameBytes f ruleWord ≡ false → sameBytes f endWord ≡ false → wordOf f ≡ Unknown
-  unfolding wordOf
-  word-unknown a b e = rw (a, b, e)
-
--- ---- a literal's form: `~` up to a, `-` up to b, the name from b on
-
-pub lead-here : (b : ℕ) (s : List ℕ) (at : ℕ) → at < length s → getD s at 0 ≡ b → lead b (drop at s) ≡ 1
-lead-here b s at h e = rw (left-at s at h, eq-eqb (getD s at 0) b e)
-
-pub lead-other : (b : ℕ) (s : List ℕ) (at : ℕ) → at < length s → (getD s at 0 ≡ b → ⊥) → lead b (drop at s) ≡ 0
-lead-other b s at h e = rw (left-at s at h, ne-eqb (getD s at 0) b e)
-
-pub lead-end : (b : ℕ) (s : List ℕ) (at : ℕ) → length s ≤ at → lead b (drop at s) ≡ 0
-lead-end b s at h = rw (drop-of-length-le s h)
-
--- at most one `~` and one `-`
-pub lead-most : (b : ℕ) (s : List ℕ) → lead b s ≤ 1
-lead-most b [] = omega arith
-lead-most b (x ∷ xs) = go (eqb x b)
-  where
-    go : (t : Bool) → cond t 1 0 ≤ 1
-    go true = omega arith
-    go false = omega arith
-
-module _ (f : List ℕ) (a b : ℕ) (ea : a ≡ tildes f) (eb : b ≡ minuses f) where
-  pub name-from : nameOf f ≡ take (length f - (a + b)) (drop (a + b) f)
-  name-from =
-      drop-drop (minuses f) (tildes f) f ∙ ap₂ (λ (x y : ℕ). drop (x + y) f) (sym ea) (sym eb)
-      ∙ sym (take-all (length f - (a + b)) (drop (a + b) f) (omega (arith, length-drop (a + b) f)))
-
-  pub form-malformed : isName (take (length f - (a + b)) (drop (a + b) f)) ≡ false → formOf f ≡ Malformed
-  unfolding formOf
-  form-malformed h = rw (ap isName name-from ∙ h)
-
-  pub form-literal : isName (take (length f - (a + b)) (drop (a + b) f)) ≡ true → formOf f ≡ Literal a b
-  unfolding formOf
-  form-literal h = rw (ap isName name-from ∙ h) (ap₂ Literal (sym ea) (sym eb))

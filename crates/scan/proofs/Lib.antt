@@ -1,3 +1,5 @@
 -- Laws of the text's definitions.
-pub mod Bytes
 pub mod Places
+pub mod Bytes
+pub mod Words
+pub mod Forms

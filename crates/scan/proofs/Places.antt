@@ -31,6 +31,22 @@ module _ (stop : ℕ) (s : List ℕ) (i : ℕ) where
   unfolding lenTo
   lenTo-end h = rw (drop-of-length-le s h)
 
+-- ---- the pieces byte by byte
+
+module _ (stop : ℕ) where
+  pub split-none : split stop [] ≡ [] ∷ []
+  unfolding split
+  split-none = refl
+
+  module _ (x : ℕ) (xs : List ℕ) where
+    pub split-stop : eqb x stop ≡ true → split stop (x ∷ xs) ≡ [] ∷ split stop xs
+    unfolding split
+    split-stop e = rw e
+
+    pub split-byte : eqb x stop ≡ false → split stop (x ∷ xs) ≡ onto x (split stop xs)
+    unfolding split
+    split-byte e = rw e
+
 -- ---- how many pieces
 
 length-onto : (x : ℕ) (l : List (List ℕ)) → 0 < length l → length (onto x l) ≡ length l

@@ -5,8 +5,9 @@ use mathlib.Core.Bool.{Bool, not}
 use Prim.Native.Nat.{_≤_, _+_, _-_}
 use lib.ListN.{length}
 use Rattle.scan.specs.Text.{rest}
+use Rattle.scan.proofs.Forms.{malformed-form, literal-form}
 use Rattle.reader.specs.File.{allFields, isLiteral, _when_else_}
-use Rattle.reader.proofs.Fields.{fields-go, fields-stop, fields-end, malformed-form, literal-form}
+use Rattle.reader.proofs.Fields.{fields-go, fields-stop, fields-end}
 use native.Mathlib.Omega.{arith}
 use Rattle.reader.proofs.form_fault.Statement.{statement}
 use Rattle.reader.proofs.form_fault.Tie as tie

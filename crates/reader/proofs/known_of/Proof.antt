@@ -2,7 +2,7 @@
 use borrow.Author.Needs.{needs}
 use mathlib.Core.Path.{sym, ap, ap₂, _∙_}
 use Prim.Native.Nat.{ℕ, _+_, _*_}
-use Rattle.scan.proofs.Bytes.{name-from}
+use Rattle.scan.proofs.Forms.{name-from}
 use Rattle.book.specs.Limits.{maxNames}
 use Rattle.book.specs.Book.{clamp, namesIn, find}
 use Rattle.reader.specs.declared.Known.the-variants.{Entry}

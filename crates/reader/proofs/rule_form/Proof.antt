@@ -9,9 +9,8 @@ use borrow.Author.Tests.{eq-eqb}
 use Rattle.scan.specs.Text.{rest, tildes, formOf}
 use Rattle.scan.specs.declared.Form.the-variants.{Literal}
 use Rattle.scan.proofs.Places.{rest-step}
-use Rattle.scan.proofs.Bytes.{lead-most}
+use Rattle.scan.proofs.Forms.{lead-most, malformed-form, literal-form, form-tildes}
 use Rattle.reader.specs.Steps.{ruleForm}
-use Rattle.reader.proofs.Fields.{malformed-form, literal-form, form-tildes}
 use Rattle.reader.proofs.Held.{head-malformed, head-tilde, head-formed}
 use native.Mathlib.Omega.{arith}
 use Rattle.reader.proofs.rule_form.Statement.{statement}

@@ -1,7 +1,7 @@
 -- `form_of`: the name is what is left behind the marks.
 use borrow.Author.Needs.{needs}
 use mathlib.Core.Path.{sym, _∙_}
-use Rattle.scan.proofs.Bytes.{form-malformed, form-literal}
+use Rattle.scan.proofs.Forms.{form-malformed, form-literal}
 use Rattle.scan.proofs.form_of.Statement.{statement}
 use Rattle.scan.proofs.form_of.Tie as tie
 

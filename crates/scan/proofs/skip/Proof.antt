@@ -1,6 +1,6 @@
 -- `skip`: one byte is looked at, if there is one.
 use borrow.Author.Needs.{needs}
-use Rattle.scan.proofs.Bytes.{lead-here, lead-other, lead-end}
+use Rattle.scan.proofs.Forms.{lead-here, lead-other, lead-end}
 use native.Mathlib.Omega.{arith}
 use Rattle.scan.proofs.skip.Statement.{statement}
 use Rattle.scan.proofs.skip.Tie as tie

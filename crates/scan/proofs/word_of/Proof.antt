@@ -1,7 +1,7 @@
 -- `word_of`: the field is compared with the words in the definition's order.
 use borrow.Author.Needs.{needs}
 use mathlib.Core.Path.{sym, _∙_}
-use Rattle.scan.proofs.Bytes.{word-name, word-rule, word-end, word-unknown}
+use Rattle.scan.proofs.Words.{word-name, word-rule, word-end, word-unknown}
 use Rattle.scan.proofs.word_of.Statement.{statement}
 use Rattle.scan.proofs.word_of.Tie as tie
 
