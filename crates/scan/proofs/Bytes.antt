@@ -7,9 +7,19 @@ use native.Mathlib.Omega.{arith}
 use lib.ListN.{length, getD, take, drop, drop-of-length-le}
 use lib.Seq.{take-all}
 use lib.Dec.{eqb, leb}
-use borrow.Author.Tests.{eq-eqb, le-leb, lt-leb, eqb-true, leb-true}
+use borrow.Author.Tests.{eq-eqb, le-leb, eqb-true, leb-true}
 use Rattle.scan.specs.Text.{classOf, isLetter, inName, allBytes, isName, sameBytes}
 use Rattle.scan.proofs.Places.{left-at}
+
+-- ---- tests
+
+both : (a b : Bool) → a && b ≡ true → (a ≡ true) × (b ≡ true)
+both true b e = (refl, e)
+both false b e = absurd (true≢false (sym e))
+
+pub refuted : (t : Bool) → (t ≡ true → ⊥) → t ≡ false
+refuted true h = absurd (h refl)
+refuted false h = refl
 
 -- ---- every byte
 
@@ -36,28 +46,7 @@ module _ (f : ℕ → Bool) (s : List ℕ) (i : ℕ) where
   pub bytes-end : length s ≤ i → allBytes f (drop i s) ≡ true
   bytes-end h = rw (drop-of-length-le s h) (bytes-none f)
 
--- ---- names, by the tests in their order
-
-pub name-none : (s : List ℕ) → length s ≡ 0 → isName s ≡ false
-unfolding isName
-name-none [] h = refl
-name-none (x ∷ xs) h = absurd (omega arith)
-
-pub name-long : (s : List ℕ) → 16 < length s → isName s ≡ false
-unfolding isName
-name-long [] h = refl
-name-long (x ∷ xs) h = rw (lt-leb (length xs) 15 (omega arith))
-
-pub name-first : (s : List ℕ) → length s ≤ 16 → isLetter (classOf (getD s 0 0)) ≡ false → isName s ≡ false
-unfolding isName
-name-first [] h e = refl
-name-first (x ∷ xs) h e = rw (le-leb (length xs) 15 (omega arith), e)
-
-pub name-rest : (s : List ℕ) → (length s ≡ 0 → ⊥) → length s ≤ 16 → isLetter (classOf (getD s 0 0)) ≡ true
-    → isName s ≡ allBytes (λ b. inName (classOf b)) (take (length s - 1) (drop 1 s))
-unfolding isName
-name-rest [] n h e = absurd (n refl)
-name-rest (x ∷ xs) n h e = rw (le-leb (length xs) 15 (omega arith), e, take-all (suc (length xs) - 1) xs (omega arith))
+-- ---- names
 
 -- what a name is made of: 1 to 16 bytes, a letter and then bytes that a name may have
 pub record NameParts (s : List ℕ) : Type 0 where
@@ -65,10 +54,6 @@ pub record NameParts (s : List ℕ) : Type 0 where
   pub few : length s ≤ 16
   pub letter : isLetter (classOf (getD s 0 0)) ≡ true
   pub others : allBytes (λ b. inName (classOf b)) (drop 1 s) ≡ true
-
-both : (a b : Bool) → a && b ≡ true → (a ≡ true) × (b ≡ true)
-both true b e = (refl, e)
-both false b e = absurd (true≢false (sym e))
 
 pub name-parts : (s : List ℕ) → isName s ≡ true → NameParts s
 unfolding isName
@@ -87,6 +72,23 @@ parts-name (x ∷ xs) p = rw (le-leb (length xs) 15 (let h = p .few in omega ari
 pub name-fits : (s : List ℕ) → isName s ≡ true → (1 ≤ length s) × (length s ≤ 16)
 name-fits s e = let p = name-parts s e in (p .some, p .few)
 
+-- by the tests in their order
+module _ (s : List ℕ) where
+  pub name-none : length s ≡ 0 → isName s ≡ false
+  name-none h = refuted (isName s) (λ e. omega (arith, name-parts s e .some))
+
+  pub name-long : 16 < length s → isName s ≡ false
+  name-long h = refuted (isName s) (λ e. omega (arith, name-parts s e .few))
+
+  pub name-first : isLetter (classOf (getD s 0 0)) ≡ false → isName s ≡ false
+  name-first h = refuted (isName s) (λ e. true≢false (sym (name-parts s e .letter) ∙ h))
+
+pub name-rest : (s : List ℕ) → (length s ≡ 0 → ⊥) → length s ≤ 16 → isLetter (classOf (getD s 0 0)) ≡ true
+    → isName s ≡ allBytes (λ b. inName (classOf b)) (take (length s - 1) (drop 1 s))
+unfolding isName
+name-rest [] n h e = absurd (n refl)
+name-rest (x ∷ xs) n h e = rw (le-leb (length xs) 15 (omega arith), e, take-all (suc (length xs) - 1) xs (omega arith))
+
 -- ---- the same bytes
 
 pub same-refl : (a : List ℕ) → sameBytes a a ≡ true
@@ -102,10 +104,6 @@ same-equal (x ∷ xs) [] e = absurd (true≢false (sym e))
 same-equal (x ∷ xs) (y ∷ ys) e =
     let h = both (eqb x y) (sameBytes xs ys) e in
     cc (eqb-true x y (h .0), same-equal xs ys (h .1))
-
-pub refuted : (t : Bool) → (t ≡ true → ⊥) → t ≡ false
-refuted true h = absurd (h refl)
-refuted false h = refl
 
 pub same-is : (r : Bool) (a b : List ℕ) → (r ≡ true → a ≡ b) × (a ≡ b → r ≡ true) → r ≡ sameBytes a b
 same-is true a b h = sym (ap (sameBytes a) (sym (h .0 refl)) ∙ same-refl a)

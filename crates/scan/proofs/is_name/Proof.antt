@@ -30,7 +30,7 @@ returns-3 c =
     let s = at .before .before .before .args .s .now in
     let e : isLetter (classOf (getD s 0 0)) ≡ false =
     ap isLetter (sym (c .before .before .class-of .ensures)) ∙ sym (c .before .is-letter .ensures) ∙ not-true (c .before .is-letter .result) (c .if3 .taken) in
-    sym (name-first s (at .if2 .left) e)
+    sym (name-first s e)
 
 sub-all-in-name : tie.Need-sub-all-in-name
 sub-all-in-name c = search needs
