@@ -10,6 +10,7 @@ use Rattle.wfsx.specs.Sets.{_isIn_}
 use Rattle.wfsx.proofs.Sets.{clash, refuted, not-intro, and-l, and-r, and-intro}
 use borrow.Author.Tests.{not-true}
 use Rattle.scan.specs.declared.Word.{Word}
+use lib.ListN.{length}
 use Rattle.reader.specs.File.{Content, allFields, wrongFields, malformed, declaredBefore, usesUndeclared, beyondTable, _when_else_, faultOf}
 
 pub record Passes (d : Content) (w : Word) (others : List (List ℕ)) : Type 0 where
@@ -38,6 +39,10 @@ line-passes d w others e =
 pub neither : (a b : Bool) → a || b ≡ false → (a ≡ false) × (b ≡ false)
 neither true b e = absurd (true≢false e)
 neither false b e = (refl, e)
+
+pub no-entries : {X : Type 0} (l : List X) → length l ≡ 0 → l ≡ []
+no-entries [] e = refl
+no-entries (x ∷ l) e = absurd (omega arith)
 
 -- ---- a test of all entries of a list
 

@@ -16,6 +16,7 @@ use Rattle.book.specs.Book.{clamp, namesIn, codeOf, bodyCodes, textTable, lengt
 use Rattle.book.proofs.Tables.{allCodes, codes-none, codes-first, text-more, length-more, head-more, start-more, entry-more}
 use Rattle.book.proofs.Counts.{clamp-least}
 use Rattle.book.proofs.Back.{names-back}
+use Rattle.reader.proofs.Within.{literals-append}
 use Rattle.reader.specs.File.{bodyLiterals, allFields, isLiteral, hasTilde, headTilde, declared, _when_else_}
 use Rattle.reader.specs.Steps.{NameTable, RuleTable, nameFault, formFault, ruleForm, ruleFault}
 
@@ -96,8 +97,7 @@ module _ (names : List (List ℕ)) (rules : List Rule) (fs : List (List ℕ)) wh
 
 bodies-more : (rules : List Rule) (r : Rule) → bodyLiterals (rules ++ (r ∷ [])) ≡ bodyLiterals rules + length (r .body)
 unfolding bodyLiterals
-bodies-more [] r = omega arith
-bodies-more (q ∷ rules) r = omega (arith, bodies-more rules r)
+bodies-more rules r = omega (arith, literals-append rules (r ∷ []))
 
 pub codes-length : (rules : List Rule) → length (allCodes rules) ≡ bodyLiterals rules
 unfolding bodyLiterals

@@ -14,6 +14,7 @@ use Rattle.scan.proofs.Places.{rest-here, rest-step, rest-none, rest-within}
 use Rattle.book.specs.Book.{padded, joined, startsFrom, bookOf}
 use Rattle.book.specs.Limits.{maxNames, maxRules, maxEntries, maxLength}
 use Rattle.book.proofs.Tables.{padded-length, text-length, allCodes, starts-length, text-none, lengths-none, heads-none, starts-none, entries-none, book-is}
+use Rattle.reader.proofs.Faults.{no-entries}
 use Rattle.reader.specs.File.{Content, nothingYet, bodyLiterals, allFields, declared, wrongFields, malformed, declaredBefore, usesUndeclared, beyondTable, faultOf, lineFault, ruleFrom, extended, withLine, accepted, refused, readLines, maxBytes, unended, linesOf, readFile}
 use Rattle.reader.specs.Steps.{NameTable, RuleTable, Holds, nameFault, ruleFault, LineRead, noCounts}
 use Rattle.reader.proofs.Held.{codes-length}
@@ -67,15 +68,11 @@ module _ (line : List ℕ) (e : ℕ) (q : e ≡ 0 + lenTo 44 (drop 0 line)) wher
   pub first-field : fields line ≡ take (e - 0) (drop 0 line) ∷ rest 44 line (e + 1)
   first-field = sym (rest-here 44 line 0 zero-le) ∙ rest-step 44 line 0 e zero-le q
 
-pub no-fields : {X : Type 0} (l : List X) → length l ≡ 0 → l ≡ []
-no-fields [] e = refl
-no-fields (x ∷ l) e = absurd (omega arith)
-
 -- one field behind the first
 pub only-field : (line : List ℕ) (p e : ℕ) → length (rest 44 line p) ≡ 1 → e ≡ p + lenTo 44 (drop p line) → rest 44 line p ≡ take (e - p) (drop p line) ∷ []
 only-field line p e one q =
     let step = rest-step 44 line p e (rest-within 44 line p (omega arith)) q in
-    step ∙ ap (λ (l : List (List ℕ)). take (e - p) (drop p line) ∷ l) (no-fields (rest 44 line (e + 1)) (omega (arith, ap length step)))
+    step ∙ ap (λ (l : List (List ℕ)). take (e - p) (drop p line) ∷ l) (no-entries (rest 44 line (e + 1)) (omega (arith, ap length step)))
 
 -- ---- what a line does to the tables
 

@@ -22,7 +22,7 @@ use Rattle.book.specs.Book.{sameName, findFrom}
 use Rattle.book.proofs.Lookup.{same-is-equal, find-none, find-first, find-later}
 use Rattle.reader.specs.File.{Content, bodyLiterals, allFields, isLiteral, hasTilde, isFound, declared, wrongFields, headTilde, malformed, declaredBefore, usesUndeclared, beyondTable, maxBytes, unended}
 use Rattle.reader.specs.Conditions.{LetterByte, NameByte, NameText, Optional, LiteralText, TooLong, StrangeByte, LastLineOpen, SomeField, FieldsWrong, FormWrong, NameTaken, NameMissing, TableFull}
-use Rattle.reader.proofs.Faults.{neither, each-field, each-passes, all-pass, fails-where}
+use Rattle.reader.proofs.Faults.{neither, each-field, each-passes, all-pass, fails-where, no-entries}
 
 -- ---- decided statements
 
@@ -60,12 +60,8 @@ strange-byte file =
 pub last-open : (file : List ℕ) → (unended file ≡ true) ↔ LastLineOpen file
 last-open file =
     let last = getD file (length file - 1) 0 in
-    or-is (eqb (length file) 0) (not (eqb last 10)) (λ e. empty file (eqb-true (length file) 0 e), λ e. eq-eqb (length file) 0 (ap length e))
+    or-is (eqb (length file) 0) (not (eqb last 10)) (λ e. no-entries file (eqb-true (length file) 0 e), λ e. eq-eqb (length file) 0 (ap length e))
     (not-is (eqb last 10) (eqb-is last 10))
-  where
-    empty : (l : List ℕ) → length l ≡ 0 → l ≡ []
-    empty [] e = refl
-    empty (x ∷ xs) e = absurd (omega arith)
 
 -- ---- names and literals
 

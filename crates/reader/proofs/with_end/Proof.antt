@@ -2,8 +2,9 @@
 use mathlib.Core.Path.{ap, _∙_}
 use native.Mathlib.Omega.{arith}
 use Rattle.scan.specs.declared.Word.the-variants.{End}
+use Rattle.reader.proofs.Faults.{no-entries}
 use Rattle.reader.specs.File.{faultOf}
-use Rattle.reader.proofs.Judgement.{fault-fields, fault-end, wrong-end, no-fields, after-end}
+use Rattle.reader.proofs.Judgement.{fault-fields, fault-end, wrong-end, after-end}
 use Rattle.reader.proofs.with_end.Statement.{statement}
 use Rattle.reader.proofs.with_end.Tie as tie
 
@@ -13,7 +14,7 @@ returns c = λ d text lengths heads starts entries others h open-yet count. (fau
 returns-2 : tie.Need-returns-2
 returns-2 c =
     λ d text lengths heads starts entries others h open-yet count. (
-      ap (faultOf d End) (no-fields others (omega (arith, c .if1 .left))) ∙ fault-end d open-yet,
+      ap (faultOf d End) (no-entries others (omega (arith, c .if1 .left))) ∙ fault-end d open-yet,
       after-end h open-yet others,
     )
 
