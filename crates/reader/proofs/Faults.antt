@@ -6,11 +6,11 @@ use mathlib.Core.Logic.{_↔_}
 use mathlib.Core.List.{List, [], _∷_, List·Memᴰ·head, List·Memᴰ·tail}
 use Prim.Native.Nat.{ℕ, suc}
 use native.Mathlib.Omega.{arith}
+use lib.ListN.{length}
 use Rattle.wfsx.specs.Sets.{_isIn_}
 use Rattle.wfsx.proofs.Sets.{clash, refuted, not-intro, and-l, and-r, and-intro}
 use borrow.Author.Tests.{not-true}
 use Rattle.scan.specs.declared.Word.{Word}
-use lib.ListN.{length}
 use Rattle.reader.specs.File.{Content, allFields, wrongFields, malformed, declaredBefore, usesUndeclared, beyondTable, _when_else_, faultOf}
 
 pub record Passes (d : Content) (w : Word) (others : List (List ℕ)) : Type 0 where

@@ -139,7 +139,7 @@ pub record ReadTo (b : List ℕ) (t : Counts) (at number : ℕ) (text lengths he
   pub same : readLines content number (rest 10 b at) ≡ readLines nothingYet 1 (split 10 b)
 
 pub read-none : (b : List ℕ)
-    → ReadTo b noCounts 0 1 (replicate 2048 0) (replicate 128 0) (replicate 512 0) (replicate 513 0) (replicate 2048 0)
+    → ReadTo b noCounts 0 1 (replicate (maxLength * maxNames) 0) (replicate maxNames 0) (replicate maxRules 0) (replicate (maxRules + 1) 0) (replicate maxEntries 0)
 unfolding bodyLiterals
 read-none b =
     record {

@@ -8,7 +8,7 @@ ghost use lib.Seq.{sets};
 ghost use Rattle.wfsx.specs.Program.{Rule};
 ghost use Rattle.scan.specs.Text.{split, rest, fields};
 ghost use Rattle.scan.specs.declared.Word.the-variants.{Name, Rule as RuleWord, End};
-ghost use Rattle.book.specs.Limits.{maxNames};
+ghost use Rattle.book.specs.Limits.{maxNames, maxRules, maxEntries};
 ghost use Rattle.book.specs.Book.{clamp, namesIn, codeOf};
 ghost use Rattle.reader.specs.File.{Content, entryFrom, lineFault, withLine, readLines, nothingYet, readFile, accepted, refused};
 ghost use Rattle.reader.specs.Loading.{loadedOf};
@@ -17,6 +17,9 @@ use book::Book;
 use book::Found;
 use scan::Form;
 use scan::Word;
+
+// The most bytes of a file; `maxBytes` in specs/File.antt is the same number.
+const MAX_BYTES: usize = 60000;
 
 pub enum Answer {
     Accepted,
@@ -58,10 +61,10 @@ fn name_line(count: usize, text: &mut [u8], lengths: &mut [u8], name: &[u8]) -> 
     let Found::Nothing = book::find_in(text, lengths, count, name) else {
         return 6;
     };
-    if 128 <= count {
+    if book::MAX_NAMES <= count {
         return 8;
     }
-    store::put_all(text, 16 * count, name);
+    store::put_all(text, book::MAX_LENGTH * count, name);
     store::put8(lengths, count, name.len() as u8);
     0
 }
@@ -133,7 +136,7 @@ fn body_entries(
     line: &[u8],
     from: usize,
 ) -> u8
-    requires { ⌜ (from ≤ length (now line) + 1) × (at ≤ 2048) ⌝ }
+    requires { ⌜ (from ≤ length (now line) + 1) × (at ≤ maxEntries) ⌝ }
     ensures { λ r. ⌜ (r ≡ knownFault (namesIn (now (text .entry)) (now (lengths .entry)) (clamp maxNames count)) (rest 44 (now (line .entry)) from)) × (r ≡ 0 → now (entries .exit) ≡ sets (now (entries .entry)) at (map (λ f. codeOf (entryFrom (namesIn (now (text .entry)) (now (lengths .entry)) (clamp maxNames count)) f)) (rest 44 (now (line .entry)) from))) ⌝ }
 {
     let mut k = at;
@@ -162,7 +165,7 @@ fn rule_line(
     from: usize,
     n: usize,
 ) -> u8
-    requires { ⌜ (t .used ≤ 2048) × (n ≤ 16) × (from ≤ length (now line)) × (n + 1 ≡ length (rest 44 (now line) from)) ⌝ }
+    requires { ⌜ (t .used ≤ maxEntries) × (n ≤ 16) × (from ≤ length (now line)) × (n + 1 ≡ length (rest 44 (now line) from)) ⌝ }
     ensures { λ r. ⌜ ((names : List (List ℕ)) (rules : List Rule) → NameTable names (t .names) (now (text .entry)) (now (lengths .entry)) → RuleTable rules (t .rules) (t .used) (now (heads .entry)) (now (starts .entry)) (now (entries .entry)) → RuleRead names rules (t .rules) (t .used) n (rest 44 (now (line .entry)) from) r (now (heads .exit)) (now (starts .exit)) (now (entries .exit))) ⌝ }
 {
     if rule_form(line, from) != 0 {
@@ -177,11 +180,11 @@ fn rule_line(
         return 7;
     }
     let rules = t.rules;
-    if 512 <= rules {
+    if book::MAX_RULES <= rules {
         return 8;
     }
     let end = t.used + n;
-    if 2048 < end {
+    if book::MAX_ENTRIES < end {
         return 8;
     }
     store::put16(heads, rules, literal as u16);
@@ -206,7 +209,7 @@ fn with_name(
     from: usize,
     n: usize,
 ) -> LineAnswer
-    requires { ⌜ (t .names ≤ 128) × (from ≤ length (now line) + 1) × (n ≡ length (rest 44 (now line) from) + 1) ⌝ }
+    requires { ⌜ (t .names ≤ maxNames) × (from ≤ length (now line) + 1) × (n ≡ length (rest 44 (now line) from) + 1) ⌝ }
     ensures { λ r. ⌜ ((d : Content) (heads starts entries : List ℕ) → Holds d t (now (text .entry)) (now (lengths .entry)) heads starts entries → d .ended ≡ false → WordRead d Name (rest 44 (now (line .entry)) from) r (now (text .exit)) (now (lengths .exit)) heads starts entries) ⌝ }
 {
     if n != 2 {
@@ -237,7 +240,7 @@ fn with_rule(
     from: usize,
     n: usize,
 ) -> LineAnswer
-    requires { ⌜ (t .rules ≤ 512) × (t .used ≤ 2048) × (from ≤ length (now line) + 1) × (n ≡ length (rest 44 (now line) from) + 1) ⌝ }
+    requires { ⌜ (t .rules ≤ maxRules) × (t .used ≤ maxEntries) × (from ≤ length (now line) + 1) × (n ≡ length (rest 44 (now line) from) + 1) ⌝ }
     ensures { λ r. ⌜ ((d : Content) → Holds d t (now (text .entry)) (now (lengths .entry)) (now (heads .entry)) (now (starts .entry)) (now (entries .entry)) → d .ended ≡ false → WordRead d RuleWord (rest 44 (now (line .entry)) from) r (now (text .entry)) (now (lengths .entry)) (now (heads .exit)) (now (starts .exit)) (now (entries .exit))) ⌝ }
 {
     if n < 2 {
@@ -283,7 +286,7 @@ fn judge(
     entries: &mut [u16],
     line: &[u8],
 ) -> LineAnswer
-    requires { ⌜ (t .names ≤ 128) × (t .rules ≤ 512) × (t .used ≤ 2048) ⌝ }
+    requires { ⌜ (t .names ≤ maxNames) × (t .rules ≤ maxRules) × (t .used ≤ maxEntries) ⌝ }
     ensures { λ r. ⌜ ((d : Content) → Holds d t (now (text .entry)) (now (lengths .entry)) (now (heads .entry)) (now (starts .entry)) (now (entries .entry)) → LineRead (lineFault d (fields (now (line .entry)))) (withLine d (fields (now (line .entry)))) r (now (text .exit)) (now (lengths .exit)) (now (heads .exit)) (now (starts .exit)) (now (entries .exit))) ⌝ }
 {
     if t.ended {
@@ -322,11 +325,11 @@ fn none_yet() -> Counts
 // The tables of a file that was read to its end are its book.
 fn accepted_with(
     t: Counts,
-    text: [u8; 2048],
-    lengths: [u8; 128],
-    heads: [u16; 512],
-    starts: [u16; 513],
-    entries: [u16; 2048],
+    text: [u8; book::MAX_TEXT],
+    lengths: [u8; book::MAX_NAMES],
+    heads: [u16; book::MAX_RULES],
+    starts: [u16; book::MAX_STARTS],
+    entries: [u16; book::MAX_ENTRIES],
 ) -> Loaded
     ensures { λ r. ⌜ ((d : Content) → Holds d t text lengths heads starts entries → r ≡ loadedOf (accepted (d .names) (d .rules))) ⌝ }
 {
@@ -348,11 +351,11 @@ fn accepted_with(
 fn read_lines(b: &[u8]) -> Loaded
     ensures { λ r. ⌜ r ≡ loadedOf (readLines nothingYet 1 (split 10 (now (b .entry)))) ⌝ }
 {
-    let mut text = [0u8; 2048];
-    let mut lengths = [0u8; 128];
-    let mut heads = [0u16; 512];
-    let mut starts = [0u16; 513];
-    let mut entries = [0u16; 2048];
+    let mut text = [0u8; book::MAX_TEXT];
+    let mut lengths = [0u8; book::MAX_NAMES];
+    let mut heads = [0u16; book::MAX_RULES];
+    let mut starts = [0u16; book::MAX_STARTS];
+    let mut entries = [0u16; book::MAX_ENTRIES];
     let mut t = none_yet();
     let mut at = 0;
     let mut number = 1;
@@ -387,7 +390,7 @@ pub fn read(file: &[u8]) -> Loaded
     ensures { λ r. ⌜ r ≡ loadedOf (readFile (now (file .entry))) ⌝ }
 {
     let n = file.len();
-    if 60000 < n {
+    if MAX_BYTES < n {
         return refusal(1, 0);
     }
     if !scan::all_text(file) {

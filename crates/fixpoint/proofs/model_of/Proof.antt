@@ -2,6 +2,7 @@
 use borrow.Author.Needs.{needs}
 use native.Mathlib.Omega.{arith}
 use mathlib.Core.Path.{_≡_}
+use Prim.Native.Nat.{_+_}
 use lib.ListN.{length}
 use Rattle.litset.specs.Words.{setOf}
 use Rattle.book.specs.Book.{programOf}
@@ -15,10 +16,10 @@ use Rattle.fixpoint.proofs.model_of.Tie as tie
 rule-count-requires : tie.Need-rule-count-requires
 rule-count-requires c κs = search needs
 
-heads-size : (c : tie.Start) → length (c .args .t1 .heads) ≡ 512
+heads-size : (c : tie.Start) → length (c .args .t1 .heads) ≡ maxRules
 heads-size c = search needs
 
-starts-size : (c : tie.Start) → length (c .args .t1 .starts) ≡ 513
+starts-size : (c : tie.Start) → length (c .args .t1 .starts) ≡ maxRules + 1
 starts-size c = search needs
 
 settle-requires : tie.Need-settle-requires

@@ -1,7 +1,7 @@
 -- `complement`: each arm is the case of the definition that its test picks.
 use borrow.Author.Needs.{needs}
-use Rattle.wfsx.proofs.Program.{compl-plain, compl-negated}
 use mathlib.Core.Path.{sym}
+use Rattle.wfsx.proofs.Program.{compl-plain, compl-negated}
 use Rattle.litset.proofs.complement.Statement.{statement}
 use Rattle.litset.proofs.complement.Tie as tie
 

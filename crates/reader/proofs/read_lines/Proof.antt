@@ -1,14 +1,13 @@
 -- `read_lines`: the lines passed have no fault and what they say stands in the tables, so the lines that are left decide.
 use borrow.Author.Needs.{needs}
-use mathlib.Core.Path.{sym, ap, _∙_, subst}
+use mathlib.Core.Path.{sym, ap, _∙_}
 use mathlib.Core.Bool.{Bool, cond}
 use Prim.Native.Nat.{_+_, _-_, _≤_}
-use lib.ListN.{length, take, drop, replicate}
+use lib.ListN.{length, take, drop}
 use borrow.Author.Tests.{not-true, not-false}
 use Rattle.scan.specs.Text.{fields}
 use Rattle.reader.specs.File.{lineFault, withLine, accepted, refused}
 use Rattle.reader.specs.Loading.{loadedOf}
-use Rattle.reader.specs.declared.Counts.{Counts}
 use Rattle.reader.proofs.Judgement.{lines-go, lines-stop, lines-end, ReadTo, read-none, text-size, lengths-size, heads-size, starts-size, entries-size, was-fine, was-fault}
 use native.Mathlib.Omega.{arith}
 use Rattle.reader.proofs.read_lines.Statement.{statement}
@@ -25,7 +24,7 @@ none-yet-requires : tie.Need-none-yet-requires Inv-loop μ-loop
 none-yet-requires c κs = search needs
 
 loop-holds : tie.Need-loop-holds Inv-loop μ-loop
-loop-holds c = (search needs, search needs, subst (λ (t : Counts). ReadTo (c .before .before .args .b .now) t 0 1 (replicate 2048 0) (replicate 128 0) (replicate 512 0) (replicate 513 0) (replicate 2048 0)) (sym (c .none-yet .ensures)) (read-none (c .before .before .args .b .now)))
+loop-holds c = (search needs, search needs, rw (c .none-yet .ensures) (read-none (c .before .before .args .b .now)))
 
 end-of-requires : tie.Need-end-of-requires Inv-loop μ-loop
 end-of-requires c κs = search needs
