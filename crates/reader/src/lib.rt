@@ -41,12 +41,12 @@ fn refusal(number: u8, line: usize) -> Loaded
     }
 }
 
-// How much has been read.
-pub struct Counts {
-    pub names: usize,
-    pub rules: usize,
-    pub used: usize,
-    pub ended: bool,
+// How much has been read: names, rules, body literals, and whether `end` came.
+struct Counts {
+    names: usize,
+    rules: usize,
+    used: usize,
+    ended: bool,
 }
 
 // ---- a name's line
@@ -107,7 +107,7 @@ fn rule_form(line: &[u8], from: usize) -> u8
 }
 
 // A field's name looked up: its literal, and how many `~` stand before it.
-pub enum Known {
+enum Known {
     Undeclared,
     Entry { literal: usize, tildes: usize },
 }
@@ -195,7 +195,7 @@ fn rule_line(
 // ---- a line, the lines, the file
 
 // A line without a fault, with the counts behind it, or its fault.
-pub enum LineAnswer {
+enum LineAnswer {
     Fine(Counts),
     Fault(u8),
 }
@@ -277,6 +277,7 @@ fn with_end(t: Counts, n: usize) -> LineAnswer
     })
 }
 
+// A line behind those that the tables hold.
 fn judge(
     t: Counts,
     text: &mut [u8],
