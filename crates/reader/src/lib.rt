@@ -228,7 +228,7 @@ fn with_name(
     })
 }
 
-// Likewise where it gives a rule.
+// A line of n fields whose first field says that it gives a rule; the others begin at `from`.
 fn with_rule(
     t: Counts,
     text: &[u8],
@@ -262,7 +262,7 @@ fn with_rule(
     })
 }
 
-// Likewise where it is the last; what its other fields say decides nothing.
+// A line of n fields whose first field is `end`. Its other fields are counted and not read.
 fn with_end(t: Counts, n: usize) -> LineAnswer
     ensures { λ r. ⌜ ((d : Content) (text lengths heads starts entries : List ℕ) (others : List (List ℕ)) → Holds d t text lengths heads starts entries → d .ended ≡ false → n ≡ length others + 1 → WordRead d End others r text lengths heads starts entries) ⌝ }
 {
