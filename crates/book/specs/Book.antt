@@ -2,8 +2,8 @@
 -- rules to a model").
 use mathlib.Core.Bool.{Bool, cond}
 use mathlib.Core.List.{List, [], _∷_, _++_, map}
-use Prim.Native.Nat.{ℕ, zero, suc, _+_, _-_, _*_, _/_, _%_}
-use lib.Dec.{eqb, ltb}
+use Prim.Native.Nat.{ℕ, zero, suc, _+_, _-_, _*_, _/_, _%_, min}
+use lib.Dec.{eqb}
 use lib.ListN.{length, getD, take, drop, replicate}
 use Rattle.wfsx.specs.Sets.{Set, members}
 use Rattle.wfsx.specs.Program.{Entry, positive, default, Rule, Program, withFacts}
@@ -21,7 +21,7 @@ rows f k (suc n) = f k ∷ rows f (suc k) n
 
 -- a count past the table stands for a full table
 abbrev pub clamp : ℕ → ℕ → ℕ
-clamp most n = cond (ltb n most) n most
+clamp most n = min n most
 
 -- ---- names
 

@@ -16,11 +16,11 @@ Inv-loop text lengths count name n k₀ k = (k ≤ n) × (findFrom k name (rows 
 abbrev μ-loop : tie.MeasureT-loop
 μ-loop text lengths count name n k₀ k = n - k
 
-clamped-requires : tie.Need-clamped-requires Inv-loop μ-loop
-clamped-requires c κs = search needs
+least-requires : tie.Need-least-requires Inv-loop μ-loop
+least-requires c κs = search needs
 
 loop-holds : tie.Need-loop-holds Inv-loop μ-loop
-loop-holds c = (search needs, rw (sub-zero (c .clamped .result)))
+loop-holds c = (search needs, rw (sub-zero (c .least .result)))
 
 name-at-requires : tie.Need-name-at-requires Inv-loop μ-loop
 name-at-requires c κs = search needs
@@ -35,8 +35,8 @@ returns c =
     let f = nameAt (a .text .now) (a .lengths .now) in
     let hit : sameName (f (at .loop .k)) (a .name .now) ≡ true =
     ap (λ (x : List ℕ). sameName x (a .name .now)) (sym (c .before .before .name-at .ensures)) ∙ sym (c .before .same-name .ensures) ∙ c .if1 .taken in
-    sym (find-hit f (a .name .now) (at .loop .k) (at .before .clamped .result) (c .before .before .before .loop-test .taken) hit) ∙ at .loop .inv .1
-    ∙ ap (λ (n : ℕ). find (namesIn (a .text .now) (a .lengths .now) n) (a .name .now)) (at .before .clamped .ensures)
+    sym (find-hit f (a .name .now) (at .loop .k) (at .before .least .result) (c .before .before .before .loop-test .taken) hit) ∙ at .loop .inv .1
+    ∙ ap (λ (n : ℕ). find (namesIn (a .text .now) (a .lengths .now) n) (a .name .now)) (at .before .least .ensures)
 
 add-k : tie.Need-add-k Inv-loop μ-loop
 add-k c = search needs
@@ -51,14 +51,14 @@ loop-again c =
     let f = nameAt (a .text .now) (a .lengths .now) in
     let miss : sameName (f (at .loop .k)) (a .name .now) ≡ false =
     ap (λ (x : List ℕ). sameName x (a .name .now)) (sym (c .before .before .name-at .ensures)) ∙ sym (c .before .same-name .ensures) ∙ c .if1 .left in
-    (search needs, sym (find-miss f (a .name .now) (at .loop .k) (at .before .clamped .result) (c .before .before .before .loop-test .taken) miss) ∙ at .loop .inv .1)
+    (search needs, sym (find-miss f (a .name .now) (at .loop .k) (at .before .least .result) (c .before .before .before .loop-test .taken) miss) ∙ at .loop .inv .1)
 
 returns-2 : tie.Need-returns-2 Inv-loop μ-loop
 returns-2 c =
     let at = c .before in
     let a = at .before .before .before .before .before .args in
-    sym (find-end (nameAt (a .text .now) (a .lengths .now)) (a .name .now) (at .loop .k) (at .before .clamped .result) (c .loop-test .left)) ∙ at .loop .inv .1
-    ∙ ap (λ (n : ℕ). find (namesIn (a .text .now) (a .lengths .now) n) (a .name .now)) (at .before .clamped .ensures)
+    sym (find-end (nameAt (a .text .now) (a .lengths .now)) (a .name .now) (at .loop .k) (at .before .least .result) (c .loop-test .left)) ∙ at .loop .inv .1
+    ∙ ap (λ (n : ℕ). find (namesIn (a .text .now) (a .lengths .now) n) (a .name .now)) (at .before .least .ensures)
 
 pub find-in-spec : {M : Type 1} → statement M
 find-in-spec =
@@ -66,7 +66,7 @@ find-in-spec =
     (tie.spec
     Inv-loop
     μ-loop
-    clamped-requires
+    least-requires
     loop-holds
     name-at-requires
     same-name-requires

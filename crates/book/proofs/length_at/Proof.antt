@@ -13,15 +13,15 @@ shared-slice-read-byte c = search needs
 byte-requires : tie.Need-byte-requires
 byte-requires c κs = search needs
 
-clamped-requires : tie.Need-clamped-requires
-clamped-requires c κs = search needs
+least-requires : tie.Need-least-requires
+least-requires c κs = search needs
 
 returns : tie.Need-returns
-returns c = c .clamped .ensures ∙ ap (clamp maxLength) (c .before .byte .ensures)
+returns c = c .least .ensures ∙ ap (clamp maxLength) (c .before .byte .ensures)
 
 returns-2 : tie.Need-returns-2
 returns-2 c = sym (ap (clamp maxLength) (List·getD-eq-default (c .before .before .args .lengths .now) 0 (c .if1 .left)))
 
 pub length-at-spec : {M : Type 1} → statement M
 length-at-spec =
-    tie.close (tie.spec shared-slice-read-byte byte-requires clamped-requires returns returns-2)
+    tie.close (tie.spec shared-slice-read-byte byte-requires least-requires returns returns-2)
