@@ -12,7 +12,7 @@ use borrow.Author.Tests.{leb-true, leb-false, ltb-true, ltb-false}
 use Rattle.wfsx.specs.Sets.{Set, _∈_, _∉_}
 use Rattle.wfsx.specs.Program.{Rule}
 use Rattle.wfsx.specs.Model as wfsx
-use Rattle.wfsx.proofs.Sets.{decided}
+use Rattle.truth.proofs.Truth.{decided}
 use Rattle.reader.specs.File.{Outcome, accepted, readFile}
 use Rattle.reader.specs.File as reader
 use Rattle.reader.specs.Conditions.{Row, First}

@@ -15,7 +15,8 @@ use Rattle.wfsx.specs.Sets.{Set, _∈_, _⊆_, ∅, add}
 use Rattle.wfsx.specs.Program.{Program}
 use Rattle.wfsx.specs.Model.{M, N}
 use Rattle.wfsx.specs.Model as wfsx
-use Rattle.wfsx.proofs.Sets.{⊆-antisym, decided, and-l, and-r, and-intro, or-elim, or-l, or-r}
+use Rattle.truth.proofs.Truth.{decided, and-l, and-r, and-intro, or-elim, or-l, or-r}
+use Rattle.wfsx.proofs.Sets.{⊆-antisym}
 use Rattle.wfsx.proofs.Operators.{M-head, Γ-head, Γs⊆Γ, N-is}
 use Rattle.wfsx.proofs.Contradiction.{heads-in}
 use Rattle.litset.specs.Words.{nWords, capacity, setOf}

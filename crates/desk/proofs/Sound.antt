@@ -13,7 +13,7 @@ use borrow.Author.Tests.{eqb-true, ltb-true, lt-ltb}
 use Rattle.wfsx.specs.Sets.{Set, _∈_, add, _isIn_, members}
 use Rattle.wfsx.specs.Program.{Rule, Program, fact}
 use Rattle.wfsx.specs.Model.{M, Heads⊆, Contradictory, Both}
-use Rattle.wfsx.proofs.Sets.{decided, and-l, or-elim}
+use Rattle.truth.proofs.Truth.{decided, and-l, or-elim}
 use Rattle.wfsx.proofs.Members.{members-are}
 use Rattle.wfsx.proofs.Operators.{M-head}
 use Rattle.wfsx.proofs.Contradiction.{heads-in, contradiction}

@@ -9,7 +9,8 @@ use borrow.Author.Tests.{not-true}
 use Rattle.wfsx.specs.Sets.{Set, _∈_, _∉_, _⊆_, ∅, _∖_}
 use Rattle.wfsx.specs.Program.{compl, Rule, Program}
 use Rattle.wfsx.specs.Model.{holds, supported, Γ, Γs, I, M, N}
-use Rattle.wfsx.proofs.Sets.{not-intro, and-l, and-r, and-intro, or-elim, or-l, or-r, ⊆-antisym}
+use Rattle.truth.proofs.Truth.{not-intro, and-l, and-r, and-intro, or-elim, or-l, or-r}
+use Rattle.wfsx.proofs.Sets.{⊆-antisym}
 use Rattle.wfsx.proofs.Supported.{supported-seminormal}
 use Rattle.wfsx.proofs.Facts.{supported-facts}
 use Rattle.wfsx.proofs.Operators.{Γ-fixed, Γ-inside, I-grows, I⊆M, M-least, N-is, I-none, I-next}

@@ -7,7 +7,7 @@ use native.Mathlib.Omega.{arith}
 use lib.Dec.{eqb}
 use borrow.Author.Tests.{eq-eqb, ne-eqb}
 use Rattle.wfsx.specs.Sets.{Set, _∈_, _∉_, _∖_}
-use Rattle.wfsx.proofs.Sets.{refuted}
+use Rattle.truth.proofs.Truth.{refuted}
 use Rattle.litset.specs.Words.{without}
 use Rattle.litset.proofs.Words.{without-at}
 use Rattle.fixpoint.specs.Pass.{shut}

@@ -9,7 +9,8 @@ use borrow.Author.Tests.{eqb-true, not-true}
 use Rattle.wfsx.specs.Sets.{Set, _∈_, _∉_, _⊆_, add}
 use Rattle.wfsx.specs.Program.{Rule}
 use Rattle.wfsx.specs.Model.{holds, every, supported}
-use Rattle.wfsx.proofs.Sets.{clash, decided, and-l, and-r, or-elim, or-r, ⊆-antisym, add-has, ⊆-add}
+use Rattle.truth.proofs.Truth.{clash, decided, and-l, and-r, or-elim, or-r}
+use Rattle.wfsx.proofs.Sets.{⊆-antisym, add-has, ⊆-add}
 use Rattle.wfsx.proofs.Supported.{supported-map, holds-map, supported-intro, supported-none, supported-first}
 use Rattle.fixpoint.specs.Pass.{fire, pass}
 

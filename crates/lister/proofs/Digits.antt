@@ -9,7 +9,7 @@ use native.Mathlib.Omega.{arith}
 use lib.Dec.{ltb}
 use lib.ListN.{length, length-append}
 use borrow.Author.Tests.{ltb-true, ltb-false, lt-ltb, le-ltb}
-use Rattle.wfsx.proofs.Sets.{decided}
+use Rattle.truth.proofs.Truth.{decided}
 use Rattle.lister.specs.Listing.{lastDigits, digits}
 
 module _ (k n : ℕ) where

@@ -11,7 +11,7 @@ use lib.Dec.{ltb}
 use lib.ListN.{length}
 use Rattle.wfsx.specs.Sets.{Set, members}
 use Rattle.wfsx.specs.Model.{M, N, Both, verdict}
-use Rattle.wfsx.proofs.Sets.{clash, decided, and-l, and-r, and-intro}
+use Rattle.truth.proofs.Truth.{clash, decided, and-l, and-r, and-intro}
 use Rattle.wfsx.proofs.Operators.{Γ-least, M-from-N}
 use Rattle.litset.specs.Words.{capacity, setOf}
 use Rattle.litset.specs.declared.LitSet.{LitSet}

@@ -8,7 +8,7 @@ use Prim.Native.Nat.{ℕ, suc}
 use native.Mathlib.Omega.{arith}
 use lib.ListN.{length}
 use Rattle.wfsx.specs.Sets.{_isIn_}
-use Rattle.wfsx.proofs.Sets.{clash, refuted, not-intro, and-l, and-r, and-intro}
+use Rattle.truth.proofs.Truth.{clash, refuted, not-intro, and-l, and-r, and-intro}
 use borrow.Author.Tests.{not-true}
 use Rattle.scan.specs.declared.Word.{Word}
 use Rattle.reader.specs.File.{Content, allFields, wrongFields, malformed, declaredBefore, usesUndeclared, beyondTable, _when_else_, faultOf}

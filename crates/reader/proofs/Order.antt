@@ -8,7 +8,7 @@ use Prim.Native.Nat.{ℕ, _≤_}
 use native.Mathlib.Omega.{arith}
 use lib.Dec.{eqb, leb}
 use borrow.Author.Tests.{leb-true, eqb-false, not-true}
-use Rattle.wfsx.proofs.Sets.{clash, and-l, and-r}
+use Rattle.truth.proofs.Truth.{clash, and-l, and-r}
 use Rattle.reader.specs.File.{_when_else_}
 use Rattle.reader.specs.Conditions.{Row, None, First, _unless_}
 

@@ -11,7 +11,7 @@ use lib.Dec.{eqb}
 use lib.ListN.{length, take, drop, length-append, length-map, length-drop, length-take}
 use borrow.Author.Tests.{eqb-true, eqb-false, not-false}
 use Rattle.wfsx.specs.Program.{Rule}
-use Rattle.wfsx.proofs.Sets.{and-l, and-r}
+use Rattle.truth.proofs.Truth.{and-l, and-r}
 use Rattle.scan.specs.Text.{onto, split, fields, isName, wordOf, tildes, minuses, nameOf, nameWord, ruleWord, endWord}
 use Rattle.scan.specs.declared.Word.{Word}
 use Rattle.scan.specs.declared.Word.the-variants.{Name, Rule as RuleWord, End, Unknown}

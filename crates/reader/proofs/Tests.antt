@@ -10,7 +10,7 @@ use lib.Dec.{eqb, leb, ltb}
 use lib.ListN.{length, getD, drop}
 use borrow.Author.Tests.{ltb-true, lt-ltb, leb-true, le-leb, eqb-true, eq-eqb, ne-eqb, not-true, not-false}
 use Rattle.wfsx.specs.Sets.{_isIn_}
-use Rattle.wfsx.proofs.Sets.{clash, refuted, not-intro, and-l, and-r, and-intro, or-elim, or-l, or-r}
+use Rattle.truth.proofs.Truth.{clash, refuted, not-intro, and-l, and-r, and-intro, or-elim, or-l, or-r}
 use Rattle.scan.specs.Text.{isText, classOf, isLetter, inName, allBytes, isName, lead, tildes, nameOf, nameWord, ruleWord, wordOf}
 use Rattle.scan.specs.declared.Class.the-variants.{Letter, Digit, Underscore, Other}
 use Rattle.scan.specs.declared.Word.{Word}

@@ -11,7 +11,7 @@ use lib.ListN.{length, drop, length-append, length-map}
 use borrow.Author.Tests.{leb-true, leb-false, ltb-false, eqb-true, not-false}
 use Rattle.wfsx.specs.Sets.{_isIn_}
 use Rattle.wfsx.specs.Program.{Entry, positive, default, Rule}
-use Rattle.wfsx.proofs.Sets.{and-r}
+use Rattle.truth.proofs.Truth.{and-r}
 use Rattle.scan.specs.Text.{fields, isName, wordOf, tildes, nameOf}
 use Rattle.scan.specs.declared.Word.{Word}
 use Rattle.scan.specs.declared.Word.the-variants.{Name, Rule as RuleWord, End, Unknown}

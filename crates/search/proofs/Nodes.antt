@@ -10,7 +10,7 @@ use Rattle.wfsx.specs.Sets.{Set, _∈_, ∅, add}
 use Rattle.wfsx.specs.Program.{compl, Entry, Rule, Program, positive, default}
 use Rattle.wfsx.specs.Model.{supported}
 use Rattle.wfsx.specs.Trees.{Tree, T, TU, child, tree, answer}
-use Rattle.wfsx.proofs.Sets.{refuted}
+use Rattle.truth.proofs.Truth.{refuted}
 use Rattle.wfsx.proofs.Facts.{supported-facts}
 use Rattle.wfsx.proofs.Trees.{one-set-unfolds, complement-once, first-way, answer-is}
 use Rattle.litset.specs.Words.{nWords, capacity, setOf, with}

@@ -13,7 +13,8 @@ use Rattle.wfsx.specs.Sets.{Set, _∈_, _∉_, _⊆_, ∅, _∪_, add, _
 use Rattle.wfsx.specs.Program.{Entry, positive, default, Program, seminormal}
 use Rattle.wfsx.specs.Model.{holds, supported, Γ, Γs, I, M, N}
 use Rattle.wfsx.specs.Trees.{T, TU, child, tree, answer}
-use Rattle.wfsx.proofs.Sets.{clash, decided, not-intro, not-mono, and-intro, ⊆-antisym, Apart, apart-∅, apart-add, add-∪, outside-add}
+use Rattle.truth.proofs.Truth.{clash, decided, not-intro, not-mono, and-intro}
+use Rattle.wfsx.proofs.Sets.{⊆-antisym, Apart, apart-∅, apart-add, add-∪, outside-add}
 use Rattle.wfsx.proofs.Supported.{heads, supported-map}
 use Rattle.wfsx.proofs.Operators.{round, round-grows, Γ-fixed, I-grows, M-has}
 use Rattle.wfsx.proofs.Trees.{open-heads, fewer, tree-unfolds, holds-at, first-way}

@@ -7,7 +7,8 @@ use Prim.Native.Nat.{ℕ, zero, suc, _+_, _≤_}
 use native.Mathlib.Omega.{arith}
 use lib.ListN.{length}
 use Rattle.wfsx.specs.Sets.{Set, _∈_, _∉_, _⊆_, ∅, _isIn_, iterate}
-use Rattle.wfsx.proofs.Sets.{clash, ⊆-antisym, outside, outside-most, outside-falls, first-missing}
+use Rattle.truth.proofs.Truth.{clash}
+use Rattle.wfsx.proofs.Sets.{⊆-antisym, outside, outside-most, outside-falls, first-missing}
 
 -- what f keeps true of every set is true of the chain
 pub chain-ind : (f : Set → Set) (Q : ℕ → Type 0) → ((D : Set) → ((A : ℕ) → A ∈ D → Q A) → (A : ℕ) → A ∈ f D → Q A)

@@ -11,7 +11,8 @@ use borrow.Author.Tests.{not-true, not-false}
 use Rattle.wfsx.specs.Sets.{Set, _∈_, _∉_, _⊆_, _∖_, _isIn_}
 use Rattle.wfsx.specs.Program.{compl, Program}
 use Rattle.wfsx.specs.Model.{Γ, Γs, I, M, N, PartialStable, Heads⊆, Contradictory, Both, is-true, is-false, is-undefined, valueIn, verdict}
-use Rattle.wfsx.proofs.Sets.{clash, contra, refuted, not-mono, and-l, and-r, and-intro, first-missing}
+use Rattle.truth.proofs.Truth.{clash, contra, refuted, not-mono, and-l, and-r, and-intro}
+use Rattle.wfsx.proofs.Sets.{first-missing}
 use Rattle.wfsx.proofs.Program.{compl-even, compl-odd, of-name}
 use Rattle.wfsx.proofs.Supported.{heads}
 use Rattle.wfsx.proofs.Operators.{round-map, Γ-ind, Γs-antitone, Γs-blocks, Γs-has, M-fixpoint, M-least, I⊆M, N-is, M-head}

@@ -8,7 +8,7 @@ use borrow.Author.Tests.{eq-eqb}
 use Rattle.wfsx.specs.Sets.{Set, _∈_, _isIn_, members}
 use Rattle.wfsx.specs.Program.{Entry, Rule, Program, fact, withFacts}
 use Rattle.wfsx.specs.Model.{every, supported}
-use Rattle.wfsx.proofs.Sets.{same-test, or-l, or-r}
+use Rattle.truth.proofs.Truth.{same-test, or-l, or-r}
 use Rattle.wfsx.proofs.Members.{members-are}
 use Rattle.wfsx.proofs.Supported.{heads, supported-head}
 

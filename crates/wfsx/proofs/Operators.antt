@@ -7,7 +7,7 @@ use borrow.Author.Tests.{not-true}
 use Rattle.wfsx.specs.Sets.{Set, _∈_, _∉_, _⊆_, ∅, _isIn_, iterate}
 use Rattle.wfsx.specs.Program.{compl, Program, seminormal}
 use Rattle.wfsx.specs.Model.{LeastClosed, holds, supported, Γ, Γs, I, M, N, is-true, is-false, is-undefined, verdict}
-use Rattle.wfsx.proofs.Sets.{not-intro, and-l, and-r, and-intro}
+use Rattle.truth.proofs.Truth.{not-intro, and-l, and-r, and-intro}
 use Rattle.wfsx.proofs.Chain.{chain-ind, chain-grows, chain-inside, chain-stops}
 use Rattle.wfsx.proofs.Supported.{supported-map, holds-map, heads, supported-head, heads-most, supported-seminormal, closed-from, closed-to}
 

@@ -7,7 +7,7 @@ use native.Mathlib.Omega.{arith}
 use lib.Dec.{eqb}
 use borrow.Author.Tests.{eqb-true, eqb-false, eq-eqb, ne-eqb}
 use Rattle.wfsx.specs.Program.{compl}
-use Rattle.wfsx.proofs.Sets.{decided}
+use Rattle.truth.proofs.Truth.{decided}
 
 -- the literal of a name, and its explicit negation
 pub compl-plain : (A : ℕ) → A % 2 ≡ 0 → compl A ≡ A + 1

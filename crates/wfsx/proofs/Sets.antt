@@ -1,83 +1,15 @@
--- Laws of tests and sets, and how many entries of a list lie outside a set.
-use mathlib.Core.Path.{_≡_, refl, sym, _∙_, ap, fun-ext}
+-- Laws of sets, and how many entries of a list lie outside a set.
+use mathlib.Core.Path.{_≡_, refl, fun-ext}
 use mathlib.Core.Logic.{_⊎_, inl, inr}
-use mathlib.Core.Bool.{Bool, true, false, not, _&&_, _||_, true≢false}
+use mathlib.Core.Bool.{Bool, true, false, _||_}
 use mathlib.Core.List.{List, [], _∷_, List·Memᴰ·head, List·Memᴰ·tail}
 use Prim.Native.Nat.{ℕ, zero, suc, _≤_, _<_}
 use native.Mathlib.Omega.{arith}
 use lib.ListN.{length}
 use lib.Dec.{eqb}
-use borrow.Author.Tests.{eqb-true, eq-eqb, not-true}
+use borrow.Author.Tests.{eqb-true, eq-eqb}
+use Rattle.truth.proofs.Truth.{clash, decided, refuted, same-test, or-l, or-r, or-none}
 use Rattle.wfsx.specs.Sets.{Set, _∈_, _∉_, _⊆_, ∅, _∪_, add, _isIn_}
-
--- ---- tests
-
-pub clash : {b : Bool} → b ≡ true → b ≡ false → ⊥
-clash p q = true≢false (sym p ∙ q)
-
-pub decided : (b : Bool) → (b ≡ true) ⊎ (b ≡ false)
-decided true = inl refl
-decided false = inr refl
-
--- not in a larger set, so not in a smaller one
-pub contra : {a b : Bool} → (a ≡ true → b ≡ true) → b ≡ false → a ≡ false
-contra {a = true} f q = absurd (clash (f refl) q)
-contra {a = false} f q = refl
-
-pub refuted : {b : Bool} → (b ≡ true → ⊥) → b ≡ false
-refuted {b = true} f = absurd (f refl)
-refuted {b = false} f = refl
-
-pub same-test : {a b : Bool} → (a ≡ true → b ≡ true) → (b ≡ true → a ≡ true) → a ≡ b
-same-test {a = true} f g = sym (f refl)
-same-test {a = false} {b = true} f g = g refl
-same-test {a = false} {b = false} f g = refl
-
--- where either test's success makes the two equal, they are equal
-pub same-if : {a b : Bool} → (a ≡ true → a ≡ b) → (b ≡ true → a ≡ b) → a ≡ b
-same-if {a = true} f g = f refl
-same-if {a = false} {b = true} f g = g refl
-same-if {a = false} {b = false} f g = refl
-
-pub not-intro : {b : Bool} → b ≡ false → not b ≡ true
-not-intro e = ap not e
-
-pub not-mono : (a : Bool) {b : Bool} → (b ≡ true → a ≡ true) → not a ≡ true → not b ≡ true
-not-mono a f h = not-intro (contra f (not-true a h))
-
-pub and-l : (a b : Bool) → a && b ≡ true → a ≡ true
-and-l true b e = refl
-and-l false b e = e
-
-pub and-r : (a b : Bool) → a && b ≡ true → b ≡ true
-and-r true b e = e
-and-r false b e = absurd (clash e refl)
-
-pub and-intro : (a b : Bool) → a ≡ true → b ≡ true → a && b ≡ true
-and-intro true b p q = q
-and-intro false b p q = p
-
-pub or-elim : (a b : Bool) → a || b ≡ true → (a ≡ true) ⊎ (b ≡ true)
-or-elim true b e = inl refl
-or-elim false b e = inr e
-
-pub or-l : (a b : Bool) → a ≡ true → a || b ≡ true
-or-l true b e = refl
-or-l false b e = absurd (clash e refl)
-
-pub or-r : (a b : Bool) → b ≡ true → a || b ≡ true
-or-r true b e = refl
-or-r false b e = e
-
-pub or-none : (a b : Bool) → a ≡ false → b ≡ false → a || b ≡ false
-or-none a b p q = ap (λ (x : Bool). x || b) p ∙ q
-
-pub and-map : (a b : Bool) {c d : Bool} → (a ≡ true → c ≡ true) → (b ≡ true → d ≡ true) → a && b ≡ true → c && d ≡ true
-and-map a b {c} {d} f g h = and-intro c d (f (and-l a b h)) (g (and-r a b h))
-
-pub or-map : (a b : Bool) {c d : Bool} → (a ≡ true → c ≡ true) → (b ≡ true → d ≡ true) → a || b ≡ true → c || d ≡ true
-or-map true b {c} {d} f g h = or-l c d (f refl)
-or-map false b {c} {d} f g h = or-r c d (g h)
 
 -- ---- sets
 

@@ -12,7 +12,7 @@ use borrow.Author.Tests.{eqb-true, eq-eqb, not-true}
 use Rattle.wfsx.specs.Sets.{Set, _∈_, _⊆_, _isIn_}
 use Rattle.wfsx.specs.Program.{compl, Entry, positive, default, Rule, Program, seminormal}
 use Rattle.wfsx.specs.Model.{Closed, holds, every, supported}
-use Rattle.wfsx.proofs.Sets.{clash, decided, not-intro, not-mono, and-l, and-r, and-intro, and-map, or-elim, or-l, or-r, or-map}
+use Rattle.truth.proofs.Truth.{clash, decided, not-intro, not-mono, and-l, and-r, and-intro, and-map, or-elim, or-l, or-r, or-map}
 
 -- ---- entry by entry, rule by rule
 

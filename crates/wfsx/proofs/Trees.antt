@@ -12,7 +12,8 @@ use Rattle.wfsx.specs.Sets.{Set, _∈_, _∉_, ∅, _∪_, add, _isIn_}
 use Rattle.wfsx.specs.Program.{compl, Entry, positive, default, Program}
 use Rattle.wfsx.specs.Model.{supported}
 use Rattle.wfsx.specs.Trees.{Tree, T, TU, Search, expansions, pruned, child, node, cut, depth, tree, answer}
-use Rattle.wfsx.proofs.Sets.{clash, refuted, same-if, and-l, and-r, add-∪, outside, outside-most, outside-add}
+use Rattle.truth.proofs.Truth.{clash, refuted, same-if, and-l, and-r}
+use Rattle.wfsx.proofs.Sets.{add-∪, outside, outside-most, outside-add}
 use Rattle.wfsx.proofs.Supported.{heads, supported-head, heads-most, supported-seminormal}
 
 module _ (P : Program) where

@@ -6,7 +6,7 @@ use mathlib.Core.Path.{_≡_, sym, _∙_}
 use Prim.Native.Nat.{ℕ, _-_, _*_, _/_, _≤_, _<_}
 use lib.ListN.{length}
 use Rattle.wfsx.specs.Model.{Both}
-use Rattle.wfsx.proofs.Sets.{clash, and-l, and-r, and-intro}
+use Rattle.truth.proofs.Truth.{clash, and-l, and-r, and-intro}
 use Rattle.litset.specs.Words.{nWords, capacity, setOf}
 use Rattle.litset.proofs.Words.{member-room}
 use Rattle.fixpoint.proofs.first_clash.Statement.{statement}

@@ -1,0 +1,2 @@
+-- The laws of tests.
+pub mod Truth
