@@ -6,7 +6,7 @@ use native.Mathlib.Nat.{mod-lt, zero-lt-suc, zero-div, div-one, div-self, div-eq
 use native.Mathlib.Decide.{decLt}
 use native.Mathlib.Numerals.{add-one}
 use native.Mathlib.Omega.{arith}
-use lib.Bits.{bitOr, bitXor, or-shr, or-mod, xor-shr, xor-mod}
+use lib.Bits.{bitAnd, bitOr, bitXor, and-shr, and-mod, or-shr, or-mod, xor-shr, xor-mod}
 use lib.Arith.{lt-one}
 use lib.Pow.{pow-pos, pow-lt, pow-add, shl-exact, shl-shr, shr-shr, shr-lt}
 use lib.Dec.{eqb}
@@ -39,6 +39,9 @@ digits Q a b c d (suc (suc x)) y h l = absurd (omega arith)
 
 pub or-bit : (a b j : ℕ) → bit (bitOr a b) j ≡ (bit a j || bit b j)
 or-bit = op-bit bitOr _||_ or-shr or-mod (digits (λ x y. eqb (bitOr x y) 1 ≡ (eqb x 1 || eqb y 1)) refl refl refl refl)
+
+pub and-bit : (a b j : ℕ) → bit (bitAnd a b) j ≡ (bit a j && bit b j)
+and-bit = op-bit bitAnd _&&_ and-shr and-mod (digits (λ x y. eqb (bitAnd x y) 1 ≡ (eqb x 1 && eqb y 1)) refl refl refl refl)
 
 -- w with the bits of m cleared
 abbrev pub clear : ℕ → ℕ → ℕ

@@ -1,4 +1,5 @@
 -- The laws of a set of literals, over a list of words of any length.
 pub mod Bit
 pub mod Words
+pub mod Names
 pub mod Ones

@@ -2,7 +2,7 @@
 use mathlib.Core.Path.{_≡_, refl, sym, ap, _∙_, fun-ext}
 use mathlib.Core.Bool.{Bool, true, false, not, _&&_, _||_, and-true, or-true, or-false, true≢false}
 use mathlib.Core.List.{List}
-use Prim.Native.Nat.{ℕ, zero, suc, _+_, _*_, _/_, _%_, _^_, _≤_, _<_, _-_}
+use Prim.Native.Nat.{ℕ, zero, suc, _+_, _*_, _/_, _%_, _^_, _≤_, _<_}
 use native.Mathlib.Omega.{arith}
 use native.Mathlib.Decide.{decLt, ℕ-discrete}
 use lib.Bits.{bitOr}
@@ -12,7 +12,7 @@ use lib.Seq.{getD-set-same, getD-set-other, ext-getD}
 use borrow.Author.Count.{below-none, below-more}
 use borrow.Author.Tests.{eq-eqb, ne-eqb, lt-ltb, le-ltb}
 use native.Mathlib.Nat.{le-refl}
-use Rattle.wfsx.specs.Sets.{Set, _∈_, ∅, _∪_, add}
+use Rattle.wfsx.specs.Sets.{Set, _∈_, ∅, add}
 use Rattle.wfsx.specs.Program.{compl}
 use Rattle.wfsx.proofs.Program.{compl-plain, compl-negated}
 use Rattle.litset.specs.Words.{nWords, capacity, bit, setOf, with, without}
@@ -131,35 +131,40 @@ set-settles ws vs len hw hv e =
     let place : (64 * i + j) % 64 ≡ j = omega arith in
     simp (word, place) at (ap (λ (S : Set). S (64 * i + j)) e)))
 
--- ---- a loop that puts, word by word, the union in the place of the first
+-- ---- a loop that puts, word by word, what an operation makes of two sets in the place of the first
 
-pub record Joined (a b t : List ℕ) (i : ℕ) : Type 0 where
+pub record Joined (op : ℕ → ℕ → ℕ) (a b t : List ℕ) (i : ℕ) : Type 0 where
   pub size : length t ≡ length a
-  pub done : (k : ℕ) → k < i → getD t k 0 ≡ bitOr (getD a k 0) (getD b k 0)
+  pub done : (k : ℕ) → k < i → getD t k 0 ≡ op (getD a k 0) (getD b k 0)
   pub left : (k : ℕ) → i ≤ k → getD t k 0 ≡ getD a k 0
 
-pub joined-none : (a b : List ℕ) → Joined a b a 0
-joined-none a b = record { size = refl; done = below-none _; left = λ k h. refl }
+module _ (op : ℕ → ℕ → ℕ) (a b : List ℕ) where
+  pub joined-none : Joined op a b a 0
+  joined-none = record { size = refl; done = below-none _; left = λ k h. refl }
 
-pub joined-more : (a b t : List ℕ) (i : ℕ) → i < length t → Joined a b t i → Joined a b (set t i (bitOr (getD t i 0) (getD b i 0))) (i + 1)
-joined-more a b t i h u =
-    record {
-      size = length-set t i _ ∙ u .size;
-      done = below-more _ i (λ k l. getD-set-other t i k _ 0 (λ e. omega arith) ∙ u .done k l)
-          (getD-set-same t i _ 0 h ∙ ap (λ (w : ℕ). bitOr w (getD b i 0)) (u .left i (le-refl i)));
-      left = λ k l. getD-set-other t i k _ 0 (λ e. omega arith) ∙ u .left k (omega arith);
-    }
+  pub joined-more : (t : List ℕ) (i : ℕ) → i < length t → Joined op a b t i → Joined op a b (set t i (op (getD t i 0) (getD b i 0))) (i + 1)
+  joined-more t i h u =
+      record {
+        size = length-set t i _ ∙ u .size;
+        done = below-more _ i (λ k l. getD-set-other t i k _ 0 (λ e. omega arith) ∙ u .done k l)
+            (getD-set-same t i _ 0 h ∙ ap (λ (w : ℕ). op w (getD b i 0)) (u .left i (le-refl i)));
+        left = λ k l. getD-set-other t i k _ 0 (λ e. omega arith) ∙ u .left k (omega arith);
+      }
 
-pub joined-all : (a b t : List ℕ) (i : ℕ) → length a ≤ i → length b ≤ i → Joined a b t i → setOf t ≡ setOf a ∪ setOf b
-unfolding setOf
-joined-all a b t i ha hb u = fun-ext (λ l. ap (λ (w : ℕ). bit w (l % 64)) (word (l / 64)) ∙ or-bit _ _ (l % 64))
-  where
-    word : (k : ℕ) → getD t k 0 ≡ bitOr (getD a k 0) (getD b k 0)
-    word k = go (decLt k i)
-      where
-        go : Dec (k < i) → getD t k 0 ≡ bitOr (getD a k 0) (getD b k 0)
-        go (yes h) = u .done k h
-        go (no h) =
-            let pa : getD a k 0 ≡ 0 = List·getD-eq-default a 0 (omega arith) in
-            let pb : getD b k 0 ≡ 0 = List·getD-eq-default b 0 (omega arith) in
-            u .left k (omega arith) ∙ rw (pa, pb) refl
+  -- past the last word every word counts as 0
+  pub joined-words : op 0 0 ≡ 0 → (t : List ℕ) (i : ℕ) → length a ≤ i → length b ≤ i → Joined op a b t i → (k : ℕ) → getD t k 0 ≡ op (getD a k 0) (getD b k 0)
+  joined-words zeros t i ha hb u k = go (decLt k i)
+    where
+      go : Dec (k < i) → getD t k 0 ≡ op (getD a k 0) (getD b k 0)
+      go (yes h) = u .done k h
+      go (no h) =
+          let pa : getD a k 0 ≡ 0 = List·getD-eq-default a 0 (omega arith) in
+          let pb : getD b k 0 ≡ 0 = List·getD-eq-default b 0 (omega arith) in
+          u .left k (omega arith) ∙ rw (pa, pb) (sym zeros)
+
+  -- an operation that is f at each bit makes f of the sets
+  pub joined-all : (f : Bool → Bool → Bool) → ((v w j : ℕ) → bit (op v w) j ≡ f (bit v j) (bit w j)) → op 0 0 ≡ 0
+      → (t : List ℕ) (i : ℕ) → length a ≤ i → length b ≤ i → Joined op a b t i → setOf t ≡ (λ l. f (setOf a l) (setOf b l))
+  unfolding setOf
+  joined-all f at-bit zeros t i ha hb u =
+      fun-ext (λ l. ap (λ (w : ℕ). bit w (l % 64)) (joined-words zeros t i ha hb u (l / 64)) ∙ at-bit _ _ (l % 64))

@@ -1,2 +1,3 @@
 -- What the contracts of `litset` cite.
 pub mod Words
+pub mod Steps

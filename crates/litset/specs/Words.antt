@@ -1,10 +1,13 @@
 -- A list of words of 64 bits, of any length, as a set of literals.
 use mathlib.Core.Bool.{Bool, not, cond, _&&_}
 use mathlib.Core.List.{List}
-use Prim.Native.Nat.{ℕ, _*_, _/_, _%_, _^_}
+use Prim.Native.Nat.{ℕ, _*_, _/_, _%_, _^_, _<_}
 use lib.Dec.{eqb, ltb}
 use lib.ListN.{getD}
 use Rattle.wfsx.specs.Sets.{Set, add}
+use Rattle.wfsx.specs.Model.{Both}
+use Rattle.litset.specs.declared.Clash.{Clash}
+use Rattle.litset.specs.declared.Clash.the-variants.{None, Name}
 
 -- How many words a `LitSet` has: `WORDS` in src/lib.rt is the same number.
 abbrev pub nWords : ℕ
@@ -29,3 +32,11 @@ with l S = cond (ltb l capacity) (add l S) S
 -- S with l taken away
 unfoldable pub without : ℕ → Set → Set
 without l S A = S A && not (eqb A l)
+
+-- n is the lowest-numbered name with both literals in S
+abbrev pub LowestBoth : Set → ℕ → Type 0
+LowestBoth S n = Both S n × ((k : ℕ) → k < n → Both S k → ⊥)
+
+abbrev pub ClashOf : Set → Clash → Type 0
+ClashOf S None = (n : ℕ) → Both S n → ⊥
+ClashOf S (Name n) = LowestBoth S n

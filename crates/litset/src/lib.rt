@@ -3,9 +3,10 @@ ghost use mathlib.Core.Path.{_≡_};
 ghost use mathlib.Core.Bool.{true};
 ghost use mathlib.Core.Logic.{_↔_};
 ghost use lib.ListN.{length};
-ghost use Rattle.wfsx.specs.Sets.{∅, _∪_, members};
-ghost use Rattle.wfsx.specs.Program.{compl};
-ghost use Rattle.litset.specs.Words.{capacity, setOf, with, without};
+ghost use Rattle.wfsx.specs.Sets.{∅, _∪_, _∖_, members};
+ghost use Rattle.wfsx.specs.Program.{compl, complements};
+ghost use Rattle.litset.specs.Words.{capacity, setOf, with, without, ClashOf};
+ghost use Rattle.litset.specs.Steps.{exchange, pairs};
 
 // How many words a set has. `nWords` in specs/Words.antt is the same number.
 const WORDS: usize = 4;
@@ -81,6 +82,69 @@ pub fn union(a: LitSet, b: LitSet) -> LitSet
         i += 1;
     }
     t
+}
+
+// The members of a that are not in b.
+pub fn difference(a: LitSet, b: LitSet) -> LitSet
+    ensures { λ r. ⌜ setOf (r .words) ≡ setOf (a .words) ∖ setOf (b .words) ⌝ }
+{
+    let mut t = a;
+    let mut i: usize = 0;
+    while i < WORDS {
+        t.words[i] = (t.words[i] | b.words[i]) ^ b.words[i];
+        i += 1;
+    }
+    t
+}
+
+// The bits of the literals that are names; those of their explicit negations stand one place higher.
+const PLAIN: u64 = 0x5555_5555_5555_5555;
+
+// A word with the two bits of each name exchanged.
+fn exchanged(w: u64) -> u64
+    ensures { λ r. ⌜ r ≡ exchange w ⌝ }
+{
+    ((w >> 1) & PLAIN) | ((w & PLAIN) << 1)
+}
+
+// The complements of the members.
+pub fn complements(s: LitSet) -> LitSet
+    ensures { λ r. ⌜ setOf (r .words) ≡ complements (setOf (s .words)) ⌝ }
+{
+    let mut t = s;
+    let mut i: usize = 0;
+    while i < WORDS {
+        t.words[i] = exchanged(t.words[i]);
+        i += 1;
+    }
+    t
+}
+
+// The lowest-numbered name that has both literals in a set, if any.
+pub enum Clash {
+    None,
+    Name(usize),
+}
+
+// The bits of a word's names that have both literals in it.
+fn pairs_in(w: u64) -> u64
+    ensures { λ r. ⌜ r ≡ pairs w ⌝ }
+{
+    (w & (w >> 1)) & PLAIN
+}
+
+pub fn lowest_both(s: LitSet) -> Clash
+    ensures { λ r. ⌜ ClashOf (setOf (s .words)) r ⌝ }
+{
+    let mut i: usize = 0;
+    while i < WORDS {
+        let pairs = pairs_in(s.words[i]);
+        if pairs != 0 {
+            return Clash::Name(32 * i + u64::trailing_zeros(pairs) as usize / 2);
+        }
+        i += 1;
+    }
+    Clash::None
 }
 
 // Whether the two have the same members.

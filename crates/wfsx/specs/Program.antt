@@ -3,10 +3,15 @@ use mathlib.Core.Bool.{cond}
 use mathlib.Core.List.{List, [], _∷_, _++_, map}
 use Prim.Native.Nat.{ℕ, _+_, _-_, _%_}
 use lib.Dec.{eqb}
+use Rattle.wfsx.specs.Sets.{Set}
 
 -- Name n has two objective literals, 2n and, explicitly negated, 2n + 1. Each is the complement of the other.
 unfoldable pub compl : ℕ → ℕ
 compl A = cond (eqb (A % 2) 0) (A + 1) (A - 1)
+
+-- the complements of the members of S
+abbrev pub complements : Set → Set
+complements S A = S (compl A)
 
 -- An entry of a body: an objective literal B, or the default literal `not C`.
 pub data Entry : Type 0 where
@@ -33,3 +38,8 @@ seminormalRule r = record { head = r .head; body = default (compl (r .head)) ∷
 
 abbrev pub seminormal : Program → Program
 seminormal P = map seminormalRule P
+
+-- A part of a program: its rules whose heads are not among the literals B.
+unfoldable pub withoutHeads : Set → Program → Program
+withoutHeads B [] = []
+withoutHeads B (r ∷ P) = cond (B (r .head)) (withoutHeads B P) (r ∷ withoutHeads B P)

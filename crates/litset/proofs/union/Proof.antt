@@ -1,22 +1,25 @@
 -- `union`: the loop's invariant is that the words passed are joined and the others are still those of the first set.
 use borrow.Author.Needs.{needs}
 use native.Mathlib.Omega.{arith}
-use mathlib.Core.Path.{_≡_}
+use mathlib.Core.Path.{_≡_, refl}
+use mathlib.Core.Bool.{_||_}
 use Prim.Native.Nat.{_-_, _≤_}
+use lib.Bits.{bitOr}
 use lib.ListN.{length, length-set}
 use Rattle.litset.specs.Words.{nWords}
+use Rattle.litset.proofs.Bit.{or-bit}
 use Rattle.litset.proofs.Words.{Joined, joined-none, joined-more, joined-all}
 use Rattle.litset.proofs.union.Statement.{statement}
 use Rattle.litset.proofs.union.Tie as tie
 
 abbrev Inv-loop : tie.InvT-loop
-Inv-loop b t₀ i₀ t i = (i ≤ nWords) × (length (t .words) ≡ nWords) × Joined (t₀ .words) (b .words) (t .words) i
+Inv-loop b t₀ i₀ t i = (i ≤ nWords) × (length (t .words) ≡ nWords) × Joined bitOr (t₀ .words) (b .words) (t .words) i
 
 abbrev μ-loop : tie.MeasureT-loop
 μ-loop b t₀ i₀ t i = nWords - i
 
 loop-holds : tie.Need-loop-holds Inv-loop μ-loop
-loop-holds c = (omega arith, search needs, joined-none _ _)
+loop-holds c = (omega arith, search needs, joined-none _ _ _)
 
 mul-t : tie.Need-mul-t Inv-loop μ-loop
 mul-t c = search needs
@@ -44,7 +47,7 @@ loop-less c = search needs
 
 loop-again : tie.Need-loop-again Inv-loop μ-loop
 loop-again c =
-    (omega arith, simp length-set (c .before .before .before .loop .inv .1), joined-more _ _ _ _ (search needs) (c .before .before .before .loop .inv .2))
+    (omega arith, simp length-set (c .before .before .before .loop .inv .1), joined-more _ _ _ _ _ (search needs) (c .before .before .before .loop .inv .2))
 
 returns : tie.Need-returns Inv-loop μ-loop
 returns c =
@@ -53,7 +56,7 @@ returns c =
     let i = c .before .loop .i in
     let past-first : length (c .before .before .args .a .words) ≤ i = omega arith in
     let past-second : length (c .before .before .args .t2 .words) ≤ i = omega arith in
-    joined-all _ _ _ _ past-first past-second (c .before .loop .inv .2)
+    joined-all bitOr _ _ _||_ or-bit refl _ _ past-first past-second (c .before .loop .inv .2)
 
 pub union-spec : {M : Type 1} → statement M
 union-spec =
