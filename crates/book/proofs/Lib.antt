@@ -4,5 +4,6 @@ pub mod Lookup
 pub mod Tables
 pub mod Back
 pub mod Parts
+pub mod Bodies
 pub mod Counts
 pub mod Heads

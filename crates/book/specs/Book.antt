@@ -11,6 +11,8 @@ use Rattle.litset.specs.Words.{capacity}
 use Rattle.scan.specs.Text.{sameBytes}
 use Rattle.book.specs.Limits.{maxNames, maxRules, maxEntries, maxLength}
 use Rattle.book.specs.declared.Book.{Book}
+use Rattle.book.specs.declared.Entry as declared
+use Rattle.book.specs.declared.Entry.the-variants.{Positive, Default}
 use Rattle.book.specs.declared.Found.{Found}
 use Rattle.book.specs.declared.Found.the-variants.{Nothing, At}
 
@@ -54,16 +56,39 @@ find names n = findFrom 0 n names
 abbrev pub literalOf : ℕ → ℕ
 literalOf n = n % capacity
 
--- an entry: twice the literal, and one more where `not` stands before it
+-- a stored entry: twice the literal, and one more where `not` stands before it
 abbrev pub entryOf : ℕ → Entry
 entryOf e = cond (eqb (e % 2) 0) (positive (literalOf (e / 2))) (default (literalOf (e / 2)))
 
--- the stored entries of rule r
+-- what an `Entry` of the code says
+abbrev pub entryIs : declared.Entry → Entry
+entryIs (Positive B) = positive B
+entryIs (Default C) = default C
+
+-- the head of rule r
+abbrev pub headAt : List ℕ → ℕ → ℕ
+headAt heads r = literalOf (getD heads r 0)
+
+-- where the body of rule r begins, and where it ends: at the place where the next rule's begins, or with the table
+abbrev pub bodyStart : List ℕ → ℕ → ℕ
+bodyStart starts r = getD starts r 0
+
+abbrev pub bodyEnd : List ℕ → List ℕ → ℕ → ℕ
+bodyEnd starts entries r = min (getD starts (r + 1) 0) (length entries)
+
+-- the entry at place j
+abbrev pub entryAt : List ℕ → ℕ → Entry
+entryAt entries j = entryOf (getD entries j 0)
+
+-- the stored entries of rule r, and its body
 abbrev pub bodyAt : List ℕ → List ℕ → ℕ → List ℕ
 bodyAt starts entries r = take (getD starts (r + 1) 0 - getD starts r 0) (drop (getD starts r 0) entries)
 
+abbrev pub bodyOf : List ℕ → List ℕ → ℕ → List Entry
+bodyOf starts entries r = map entryOf (bodyAt starts entries r)
+
 abbrev pub ruleAt : List ℕ → List ℕ → List ℕ → ℕ → Rule
-ruleAt heads starts entries r = record { head = literalOf (getD heads r 0); body = map entryOf (bodyAt starts entries r) }
+ruleAt heads starts entries r = record { head = headAt heads r; body = bodyOf starts entries r }
 
 -- the rules of a table
 abbrev pub rulesIn : List ℕ → List ℕ → List ℕ → ℕ → List Rule

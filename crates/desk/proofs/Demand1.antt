@@ -20,8 +20,9 @@ use Rattle.reader.specs.declared.Answer.{Answer}
 use Rattle.reader.specs.declared.Answer.the-variants.{Refused}
 use Rattle.reader.proofs.Conditions.{refused-exactly}
 use Rattle.reader.proofs.Outcomes.{refused-accepted}
+use Rattle.litset.specs.Words.{room}
 use Rattle.desk.specs.Listed.{listingIn, listingSays, bufferAfter, Listed, BookState, unloaded, loaded-with, itsNames, noneLoaded, inBook, programIn, Said, gives, refused, inOrder, ifLoaded, putInSays, takeOutSays, searchSays, ContradictoryOver, VerdictSays, ModelSays, acknowledged}
-use Rattle.desk.specs.Calls.{meaningOf, Fresh, LoadsAs, room, factSays, FactsAfter}
+use Rattle.desk.specs.Calls.{meaningOf, Fresh, LoadsAs, factSays, FactsAfter}
 use Rattle.desk.specs.Runs.{AsItWas, Call, load, put-in, take-out, verdict, ask, model, listing, left, ReplyTo, Meets, Run, NoBook, NotBelow, stateRows, TurnsDown, RefusedBy}
 use Rattle.desk.specs.declared.Lesson.{Lesson}
 use Rattle.desk.specs.declared.LoadReply.{LoadReply}

@@ -7,8 +7,9 @@ use Rattle.wfsx.specs.Sets.{_∈_}
 use Rattle.wfsx.specs.Program.{Program}
 use Rattle.wfsx.specs.Model as wfsx
 use Rattle.wfsx.proofs.Contradiction.{contradiction, least-partial-stable, partial-stable-above, verdict-value}
+use Rattle.litset.specs.Words.{room}
 use Rattle.desk.specs.Listed.{Listed, inBook, programIn, ContradictoryOver, Said, gives, refused, inOrder, VerdictSays}
-use Rattle.desk.specs.Calls.{Fresh, room, verdictSays, GivesVerdict}
+use Rattle.desk.specs.Calls.{Fresh, verdictSays, GivesVerdict}
 use Rattle.desk.specs.Runs.{Call, left, Run, ModelVerdict, VerdictDue}
 use Rattle.desk.specs.declared.Lesson.{Lesson}
 use Rattle.desk.specs.declared.VerdictReply.{VerdictReply}

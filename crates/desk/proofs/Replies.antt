@@ -31,7 +31,7 @@ use Rattle.lister.proofs.Calls.{was-written, was-short}
 use Rattle.desk.specs.declared.ListAnswer.the-variants as lists
 use Rattle.fixpoint.specs.Result.{ModelOf, verdictIs, verdictIn}
 use Rattle.fixpoint.specs.declared.Verdict.{Verdict}
-use Rattle.fixpoint.specs.declared.Clash.the-variants as clash
+use Rattle.litset.specs.declared.Clash.the-variants as clash
 use Rattle.fixpoint.specs.declared.Model.{Model}
 use Rattle.fixpoint.proofs.Published.{book-no-clash, book-clash-name, verdict-same}
 use Rattle.desk.specs.Listed.{Said, acknowledged, programIn, gives, refused, inOrder, putInSays, takeOutSays, searchSays, ifLoaded, setGiven, BookState, itsNames, itsRules, listingIn, listingSays, bufferAfter}

@@ -17,14 +17,13 @@ use Rattle.truth.proofs.Truth.{decided, and-l, or-elim}
 use Rattle.wfsx.proofs.Members.{members-are}
 use Rattle.wfsx.proofs.Operators.{M-head}
 use Rattle.wfsx.proofs.Contradiction.{heads-in, contradiction}
-use Rattle.litset.specs.Words.{capacity, without}
+use Rattle.litset.specs.Words.{room, capacity, without}
 use Rattle.book.specs.Limits.{maxNames}
 use Rattle.reader.specs.File.{Outcome, accepted, readFile}
 use Rattle.reader.specs.File as reader
 use Rattle.reader.proofs.Within.{accepted-within}
 use Rattle.litset.proofs.Words.{without-at}
 use Rattle.desk.specs.Listed.{Listed, itsNames, itsRules, programIn, noneLoaded, inBook, Said, gives, refused, Ack, inOrder, putInSays, takeOutSays, ContradictoryOver}
-use Rattle.desk.specs.Calls.{room}
 use Rattle.desk.specs.Runs.{Call, load, put-in, take-out, verdict, ask, model, listing, nothing, reads, withSet, unlessRefused, after, afterAll, left}
 use Rattle.desk.proofs.Order.{given-refused}
 

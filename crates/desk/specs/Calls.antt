@@ -3,9 +3,9 @@ use mathlib.Core.Path.{_≡_}
 use mathlib.Core.Bool.{Bool, true, false, cond}
 use Prim.Native.Nat.{ℕ}
 use mathlib.Core.List.{List}
-use lib.Dec.{eqb, ltb}
+use lib.Dec.{eqb}
 use Rattle.wfsx.specs.Sets.{Set, ∅, add}
-use Rattle.litset.specs.Words.{setOf, without}
+use Rattle.litset.specs.Words.{room, setOf, without}
 use Rattle.book.specs.Book.{namesOf, rulesOf, bookOf, noBook}
 use Rattle.book.specs.declared.Book.{Book}
 use Rattle.reader.specs.File.{Outcome, accepted, refused, readFile}
@@ -14,7 +14,6 @@ use Rattle.wfsx.specs.Program.{Entry}
 use Rattle.wfsx.specs.Model as wfsx
 use Rattle.wfsx.specs.Model.{M, N}
 use Rattle.wfsx.specs.Trees as trees
-use Rattle.litset.specs.Words.{capacity}
 use Rattle.fixpoint.specs.Result.{verdictIs}
 use Rattle.desk.specs.Listed.{Ack, acknowledged, BookState, unloaded, loaded-with, Listed, Said, gives, putInSays, takeOutSays, searchSays, VerdictSays, ModelSays, setGiven, listingSays, bufferAfter}
 use Rattle.desk.specs.Listed as listed
@@ -89,10 +88,6 @@ abbrev pub stateSays : ℕ → Said Ack
 stateSays number = cond (eqb number 0) (gives acknowledged) (listed.refused number)
 
 -- ---- verdict, search, model: the lesson stays as it was
-
--- the literals that a set has room for: the names of a book give no others
-abbrev pub room : Set
-room A = ltb A capacity
 
 abbrev pub verdictSays : VerdictAnswer → Said wfsx.Verdict
 verdictSays (verdict.Given v) = gives (verdictIs v)

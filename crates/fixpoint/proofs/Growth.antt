@@ -1,26 +1,26 @@
--- Γ and Γs by passes. From the facts on, every set that the passes reach lies in Γ; where a pass adds nothing the set is closed, so Γ lies in it.
+-- Γ and Γs by passes. From the start on, every set that the passes reach lies in Γ; where a pass adds nothing the set is closed, so Γ lies in it.
 -- M by rounds of the two: each set reached is an I(k), and the first that ΓΓs keeps is M.
 use mathlib.Core.Path.{_≡_, sym, _∙_, ap}
 use mathlib.Core.Logic.{_⊎_, inl, inr}
-use mathlib.Core.Bool.{Bool, true, false, not, _&&_, _||_}
+use mathlib.Core.Bool.{Bool, true, false, not, _&&_, _||_, and-true, and-false, or-assoc}
 use mathlib.Core.List.{List}
 use Prim.Native.Nat.{ℕ, suc, _<_}
 use borrow.Author.Tests.{not-true}
-use Rattle.wfsx.specs.Sets.{Set, _∈_, _∉_, _⊆_, ∅, _∖_}
-use Rattle.wfsx.specs.Program.{compl, Rule, Program}
+use Rattle.wfsx.specs.Sets.{Set, _∈_, _⊆_, ∅, _∪_, _∖_}
+use Rattle.wfsx.specs.Program.{complements, Rule, Program, withoutHeads}
 use Rattle.wfsx.specs.Model.{holds, supported, Γ, Γs, I, M, N}
 use Rattle.truth.proofs.Truth.{not-intro, and-l, and-r, and-intro, or-elim, or-l, or-r}
 use Rattle.wfsx.proofs.Sets.{⊆-antisym}
-use Rattle.wfsx.proofs.Supported.{supported-seminormal}
+use Rattle.wfsx.proofs.Parts.{supported-without, Γ-with, Γ-same, Γs-without}
 use Rattle.wfsx.proofs.Facts.{supported-facts}
 use Rattle.wfsx.proofs.Operators.{Γ-fixed, Γ-inside, I-grows, I⊆M, M-least, N-is, I-none, I-next}
 use Rattle.litset.specs.Words.{capacity}
+use Rattle.litset.proofs.Room.{free, free-falls}
 use Rattle.book.specs.Book.{program}
-use Rattle.fixpoint.specs.Pass.{version, shut, pass}
+use Rattle.fixpoint.specs.Pass.{pass}
 use Rattle.fixpoint.proofs.Pass.{Full, pass-grows, pass-inside, pass-still}
-use Rattle.fixpoint.proofs.Room.{room, room-falls}
 
--- ---- passes over some rules, where the heads in B are passed over and S decides the `not` entries
+-- ---- passes over some rules, where the heads in B are shut and S decides the `not` entries
 
 module _ (rules : List Rule) (B S : Set) where
   -- X has X₀, and lies in every closed set that has X₀
@@ -35,8 +35,8 @@ module _ (rules : List Rule) (B S : Set) where
     grows : X ⊆ Y
     grows A a = rw step (pass-grows B S rules X A a)
 
-    pub growing-falls : ((A : ℕ) → A ∈ Y → A < capacity) → (X ≡ Y → ⊥) → room Y < room X
-    growing-falls small ne = room-falls X Y grows small ne
+    pub growing-falls : ((A : ℕ) → A ∈ Y → A < capacity) → (X ≡ Y → ⊥) → free Y < free X
+    growing-falls small ne = free-falls X Y grows small ne
 
     pub growing-more : {X₀ : Set} → Growing X₀ X → Growing X₀ Y
     growing-more g =
@@ -48,50 +48,59 @@ module _ (rules : List Rule) (B S : Set) where
     pub growing-still : X ≡ Y → Full B S rules X
     growing-still e = pass-still B S rules X (λ A a. rw (e, step) a)
 
--- ---- Γ and Γs
+-- ---- the program that the passes run over: the rules that are not shut, and the start as facts
 
-module _ (rules : List Rule) (F : Set) (below : (A : ℕ) → A ∈ F → A < capacity) where
-  -- what a version of the program supports: what its rules support and the facts, but for the literals that are shut
-  version-supported : (asks : Bool) (D S : Set) (A : ℕ)
-      → supported (version asks (program rules F)) (holds D S) A ≡ (not (shut asks S A) && (supported rules (holds D S) A || F A))
-  unfolding shut
-  version-supported false D S A = supported-facts rules capacity F below (holds D S) A
-  version-supported true D S A =
-      supported-seminormal (program rules F) (holds D S) A ∙ ap (λ (b : Bool). not (S (compl A)) && b) (supported-facts rules capacity F below (holds D S) A)
+module _ (rules : List Rule) (B S X₀ : Set) (below : (A : ℕ) → A ∈ X₀ → A < capacity) where
+  abbrev Goal : Set
+  Goal = Γ (program (withoutHeads B rules) X₀) S
 
-  module _ (asks : Bool) (S : Set) where
-    abbrev Goal : Set
-    Goal = Γ (version asks (program rules F)) S
+  goal-supported : (D : Set) (A : ℕ) → supported (program (withoutHeads B rules) X₀) (holds D S) A ≡ ((not (B A) && supported rules (holds D S) A) || X₀ A)
+  goal-supported D A =
+      supported-facts (withoutHeads B rules) capacity X₀ below (holds D S) A ∙ ap (λ (b : Bool). b || X₀ A) (supported-without B rules (holds D S) A)
 
-    has : (A : ℕ) → A ∉ shut asks S → supported rules (holds Goal S) A || F A ≡ true → A ∈ Goal
-    has A b h =
-        rw (Γ-fixed (version asks (program rules F)) S)
-        (version-supported asks Goal S A ∙ and-intro (not (shut asks S A)) _ (not-intro b) h)
+  has : (A : ℕ) → (not (B A) && supported rules (holds Goal S) A) || X₀ A ≡ true → A ∈ Goal
+  has A h = rw (Γ-fixed (program (withoutHeads B rules) X₀) S) (goal-supported Goal A ∙ h)
 
-    -- passes from the facts that are not shut end in Γ
-    pub growing-end : {X₀ X : Set} → X₀ ≡ F ∖ shut asks S → Growing rules (shut asks S) S X₀ X → Full (shut asks S) S rules X → X ≡ Goal
-    growing-end {X₀} {X} e g full = ⊆-antisym (g .inside Goal whole start) (Γ-inside (version asks (program rules F)) S X closed)
-      where
-        whole : Full (shut asks S) S rules Goal
-        whole A b h = has A b (or-l _ (F A) h)
+  pub growing-end : {X : Set} → Growing rules B S X₀ X → Full B S rules X → X ≡ Goal
+  growing-end {X} g full = ⊆-antisym (g .inside Goal whole start) (Γ-inside (program (withoutHeads B rules) X₀) S X closed)
+    where
+      whole : Full B S rules Goal
+      whole A b h = has A (or-l _ (X₀ A) (and-intro (not (B A)) _ (not-intro b) h))
 
-        start : X₀ ⊆ Goal
-        start A a =
-            let h : A ∈ F ∖ shut asks S = rw e at a in
-            has A (not-true (shut asks S A) (and-r (F A) _ h)) (or-r (supported rules (holds Goal S) A) (F A) (and-l (F A) _ h))
+      start : X₀ ⊆ Goal
+      start A a = has A (or-r (not (B A) && supported rules (holds Goal S) A) (X₀ A) a)
 
-        closed : supported (version asks (program rules F)) (holds X S) ⊆ X
-        closed A h = go (or-elim (supported rules (holds X S) A) (F A) (and-r (not (shut asks S A)) _ asked))
-          where
-            asked : not (shut asks S A) && (supported rules (holds X S) A || F A) ≡ true
-            asked = sym (version-supported asks X S A) ∙ h
+      closed : supported (program (withoutHeads B rules) X₀) (holds X S) ⊆ X
+      closed A h = go (or-elim (not (B A) && supported rules (holds X S) A) (X₀ A) (sym (goal-supported X A) ∙ h))
+        where
+          go : (not (B A) && supported rules (holds X S) A ≡ true) ⊎ (A ∈ X₀) → A ∈ X
+          go (inl s) = full A (not-true (B A) (and-l (not (B A)) _ s)) (and-r (not (B A)) _ s)
+          go (inr f) = g .above A f
 
-            free : not (shut asks S A) ≡ true
-            free = and-l (not (shut asks S A)) _ asked
+-- ---- Γ and Γs by such a program
 
-            go : (A ∈ supported rules (holds X S)) ⊎ (A ∈ F) → A ∈ X
-            go (inl s) = full A (not-true (shut asks S A) free) s
-            go (inr f) = g .above A (rw e (and-intro (F A) (not (shut asks S A)) f free))
+module _ (rules : List Rule) (F : Set) (below : (A : ℕ) → A ∈ F → A < capacity) (S : Set) where
+  -- Γ(S), with nothing shut, from the facts and what is known to lie in it
+  pub from-inside : {X X₀ B : Set} → B ≡ ∅ → X₀ ≡ F ∪ X → ((A : ℕ) → A ∈ X₀ → A < capacity) → X ⊆ Γ (program rules F) S
+      → Γ (program (withoutHeads B rules) X₀) S ≡ Γ (program rules F) S
+  from-inside {X} {X₀} {B} b x small inside =
+      Γ-with (program rules F) (program (withoutHeads B rules) X₀) S X inside (λ D A.
+      goal-supported rules B S X₀ small D A ∙ rw (b, x) (sym (or-assoc (supported rules (holds D S) A) (F A) (X A)))
+      ∙ ap (λ (t : Bool). t || X A) (sym (supported-facts rules capacity F below (holds D S) A)))
+
+  -- Γs(S), with the complements of S shut, from the facts that are not
+  pub from-open : {X₀ B : Set} → B ≡ complements S → X₀ ≡ F ∖ B → ((A : ℕ) → A ∈ X₀ → A < capacity)
+      → Γ (program (withoutHeads B rules) X₀) S ≡ Γs (program rules F) S
+  from-open {X₀} {B} b x small =
+      Γ-same (withoutHeads (complements S) (program rules F)) (program (withoutHeads B rules) X₀) S (λ D A.
+      goal-supported rules B S X₀ small D A ∙ rw (x, b) (both (complements S A) (supported rules (holds D S) A) (F A))
+      ∙ ap (λ (t : Bool). not (complements S A) && t) (sym (supported-facts rules capacity F below (holds D S) A))
+      ∙ sym (supported-without (complements S) (program rules F) (holds D S) A))
+      ∙ sym (Γs-without (program rules F) S)
+    where
+      both : (c r f : Bool) → ((not c && r) || (f && not c)) ≡ (not c && (r || f))
+      both true r f = and-false f
+      both false r f = ap (λ (t : Bool). r || t) (and-true f)
 
 -- ---- M and N
 
@@ -104,7 +113,11 @@ module _ (P : Program) where
   pub round-start : {X : Set} → X ≡ ∅ → Round X
   round-start e = record { k = 0; is = e ∙ sym (I-none P) }
 
-  -- U is Γs(X) and Y is Γ(U)
+  -- U is Γs(X): X lies in Γ(U)
+  pub round-inside : {X U : Set} → Round X → U ≡ Γs P X → X ⊆ Γ P U
+  round-inside {X} {U} g u A a = ap (λ (S : Set). Γ P S A) (u ∙ ap (Γs P) (g .is)) ∙ ap (λ (S : Set). S A) (sym (I-next P (g .k))) ∙ I-grows P (g .k) A (rw (g .is) at a)
+
+  -- and Y is Γ(U)
   module _ {X U Y : Set} (g : Round X) (u : U ≡ Γs P X) (y : Y ≡ Γ P U) where
     next : Y ≡ I P (suc (g .k))
     next = y ∙ ap (Γ P) (u ∙ ap (Γs P) (g .is)) ∙ sym (I-next P (g .k))
@@ -112,8 +125,8 @@ module _ (P : Program) where
     pub round-more : Round Y
     round-more = record { k = suc (g .k); is = next }
 
-    pub round-falls : ((A : ℕ) → A ∈ Y → A < capacity) → (X ≡ Y → ⊥) → room Y < room X
-    round-falls small ne = room-falls X Y (λ A a. rw next (I-grows P (g .k) A (rw (g .is) at a))) small ne
+    pub round-falls : ((A : ℕ) → A ∈ Y → A < capacity) → (X ≡ Y → ⊥) → free Y < free X
+    round-falls small ne = free-falls X Y (λ A a. rw next (I-grows P (g .k) A (rw (g .is) at a))) small ne
 
     pub round-end : X ≡ Y → (Y ≡ M P) × (U ≡ N P)
     round-end e = (sym e ∙ same, u ∙ ap (Γs P) same ∙ sym (N-is P))

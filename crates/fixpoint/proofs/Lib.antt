@@ -1,7 +1,5 @@
 -- The laws of passes and of the model.
 pub mod Pass
 pub mod Tables
-pub mod Room
-pub mod Kept
 pub mod Growth
 pub mod Published

@@ -1,16 +1,16 @@
 -- Laws of a pass. It only adds; what it adds lies in every set that is closed under the rules; and where it adds nothing, the set is closed.
 use mathlib.Core.Path.{_≡_, refl, sym, _∙_, ap}
 use mathlib.Core.Logic.{_⊎_, inl, inr}
-use mathlib.Core.Bool.{Bool, true, false, not, cond, _&&_}
+use mathlib.Core.Bool.{Bool, true, false, not, cond, _&&_, _||_}
 use mathlib.Core.List.{List, [], _∷_, List·Memᴰ·head}
 use Prim.Native.Nat.{ℕ}
 use lib.Dec.{eqb}
 use borrow.Author.Tests.{eqb-true, not-true}
-use Rattle.wfsx.specs.Sets.{Set, _∈_, _∉_, _⊆_, add}
+use Rattle.wfsx.specs.Sets.{Set, _∈_, _∉_, _⊆_, _∪_, add}
 use Rattle.wfsx.specs.Program.{Rule}
 use Rattle.wfsx.specs.Model.{holds, every, supported}
 use Rattle.truth.proofs.Truth.{clash, decided, and-l, and-r, or-elim, or-r}
-use Rattle.wfsx.proofs.Sets.{⊆-antisym, add-has, ⊆-add}
+use Rattle.wfsx.proofs.Sets.{⊆-antisym, add-has, add-same, ⊆-add}
 use Rattle.wfsx.proofs.Supported.{supported-map, holds-map, supported-intro, supported-none, supported-first}
 use Rattle.fixpoint.specs.Pass.{fire, pass}
 
@@ -82,3 +82,21 @@ module _ (B S : Set) where
           let is : r .head ≡ A = eqb-true (r .head) A (and-l (eqb (r .head) A) _ e) in
           ap X (sym is) ∙ kept (r .head) (fired r X (ap B is ∙ b) (and-r (eqb (r .head) A) _ e))
       go others (inr e) = others e
+
+-- heads that are in the set already may as well be shut
+pub pass-there-shut : (P : List Rule) (B S U X D : Set) → D ≡ U ∪ B → U ⊆ X → pass P D S X ≡ pass P B S X
+unfolding pass
+pass-there-shut [] B S U X D e h = refl
+pass-there-shut (r ∷ P) B S U X D e h =
+    ap (pass P D S) same ∙ pass-there-shut P B S U (fire B S r X) D e (λ A a. fire-grows B S r X A (h A a))
+  where
+    there : (b : Bool) → r .head ∈ X → X ≡ cond b (add (r .head) X) X
+    there true x = sym (add-same (r .head) X x)
+    there false x = refl
+
+    go : (U (r .head) ≡ true) ⊎ (U (r .head) ≡ false) → cond (not (U (r .head) || B (r .head)) && every (holds X S) (r .body)) (add (r .head) X) X ≡ fire B S r X
+    go (inl u) = rw u (there (not (B (r .head)) && every (holds X S) (r .body)) (h (r .head) u))
+    go (inr u) = rw u refl
+
+    same : fire D S r X ≡ fire B S r X
+    same = ap (λ (C : Set). fire C S r X) e ∙ go (decided (U (r .head)))

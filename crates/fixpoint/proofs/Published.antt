@@ -2,44 +2,28 @@
 -- semantics, and nothing is left open.
 use mathlib.Core.Path.{_≡_, refl, sym, _∙_, ap, ap₂}
 use mathlib.Core.Logic.{_↔_}
-use Prim.Native.Nat.{ℕ, _<_}
-use native.Mathlib.Decide.{decLt}
+use Prim.Native.Nat.{ℕ}
 use native.Mathlib.Omega.{arith}
-use lib.Dec.{ltb}
 use Rattle.wfsx.specs.Sets.{Set}
 use Rattle.wfsx.specs.Program.{Program}
 use Rattle.wfsx.specs.Model.{M, Heads⊆, Contradictory, verdict}
 use Rattle.wfsx.proofs.Contradiction.{contradiction}
-use Rattle.litset.specs.Words.{capacity, setOf}
+use Rattle.litset.specs.Words.{room, setOf, LowestBoth, ClashOf}
+use Rattle.litset.proofs.Names.{lowest-one, clash-settles}
 use Rattle.book.specs.Book.{programOf}
 use Rattle.book.specs.declared.Book.{Book}
 use Rattle.book.proofs.Heads.{program-heads}
 use Rattle.wfsx.proofs.Operators.{verdict-is}
-use Rattle.fixpoint.specs.declared.Clash.{Clash}
-use Rattle.fixpoint.specs.declared.Clash.the-variants.{None, Name}
+use Rattle.litset.specs.declared.Clash.{Clash}
+use Rattle.litset.specs.declared.Clash.the-variants.{None, Name}
 use Rattle.fixpoint.specs.declared.Model.{Model}
-use Rattle.fixpoint.specs.Result.{LowestBoth, ClashOf, ModelOf, verdictIn}
+use Rattle.fixpoint.specs.Result.{ModelOf, verdictIn}
 
 none-name : (n : ℕ) → _≡_ {A = Clash} None (Name n) → ⊥
 none-name n e = let z : _≡_ {A = ℕ} 0 1 = cc in omega arith
 
 same-name : (k n : ℕ) → _≡_ {A = Clash} (Name k) (Name n) → k ≡ n
 same-name k n e = cc
-
-lowest-one : (S : Set) (k n : ℕ) → LowestBoth S k → LowestBoth S n → k ≡ n
-lowest-one S k n a b = go (decLt k n) (decLt n k)
-  where
-    go : Dec (k < n) → Dec (n < k) → k ≡ n
-    go (yes h) q = absurd (b .1 k h (a .0))
-    go (no h) (yes l) = absurd (a .1 n l (b .0))
-    go (no h) (no l) = omega arith
-
--- a set has one clash
-pub clash-settles : (S : Set) (c d : Clash) → ClashOf S c → ClashOf S d → c ≡ d
-clash-settles S None None a b = refl
-clash-settles S None (Name n) a b = absurd (a n (b .0))
-clash-settles S (Name k) None a b = absurd (b k (a .0))
-clash-settles S (Name k) (Name n) a b = ap Name (lowest-one S k n a b)
 
 module _ (P : Program) (base : Set) (over : Heads⊆ P base) where
   none-if : (c : Clash) → ClashOf (M P) c → (c ≡ None) ↔ (Contradictory P base → ⊥)
@@ -62,10 +46,10 @@ module _ (P : Program) (base : Set) (over : Heads⊆ P base) where
 
 -- the program of a book, over the literals that a set has room for
 module _ (b : Book) (F : Set) (m : Model) (is : ModelOf (programOf b F) m) where
-  pub book-no-clash : (m .clash ≡ None) ↔ (Contradictory (programOf b F) (λ A. ltb A capacity) → ⊥)
+  pub book-no-clash : (m .clash ≡ None) ↔ (Contradictory (programOf b F) room → ⊥)
   book-no-clash = no-clash (programOf b F) _ (program-heads b F) m is
 
-  pub book-clash-name : (n : ℕ) → (m .clash ≡ Name n) ↔ (Contradictory (programOf b F) (λ A. ltb A capacity) × LowestBoth (M (programOf b F)) n)
+  pub book-clash-name : (n : ℕ) → (m .clash ≡ Name n) ↔ (Contradictory (programOf b F) room × LowestBoth (M (programOf b F)) n)
   book-clash-name = clash-name (programOf b F) _ (program-heads b F) m is
 
 module _ (P : Program) (m : Model) (is : ModelOf P m) where

@@ -1,26 +1,16 @@
 -- What a model and a verdict are (document 01, "From rules to a model"; 001, definition 2).
 use mathlib.Core.Path.{_≡_}
 use mathlib.Core.Bool.{cond}
-use Prim.Native.Nat.{ℕ, _<_}
+use Prim.Native.Nat.{ℕ}
 use Rattle.wfsx.specs.Sets.{Set}
 use Rattle.wfsx.specs.Program.{Program}
-use Rattle.wfsx.specs.Model.{M, N, Both, is-true, is-false, is-undefined}
+use Rattle.wfsx.specs.Model.{M, N, is-true, is-false, is-undefined}
 use Rattle.wfsx.specs.Model as wfsx
-use Rattle.litset.specs.Words.{setOf}
-use Rattle.fixpoint.specs.declared.Clash.{Clash}
-use Rattle.fixpoint.specs.declared.Clash.the-variants.{None, Name}
+use Rattle.litset.specs.Words.{setOf, ClashOf}
 use Rattle.fixpoint.specs.declared.Verdict.{Verdict}
 use Rattle.fixpoint.specs.declared.Verdict.the-variants.{True, False, Undefined}
 use Rattle.fixpoint.specs.declared.Halves.{Halves}
 use Rattle.fixpoint.specs.declared.Model.{Model}
-
--- n is the lowest-numbered name with both literals in S
-abbrev pub LowestBoth : Set → ℕ → Type 0
-LowestBoth S n = Both S n × ((k : ℕ) → k < n → Both S k → ⊥)
-
-abbrev pub ClashOf : Set → Clash → Type 0
-ClashOf S None = (n : ℕ) → Both S n → ⊥
-ClashOf S (Name n) = LowestBoth S n
 
 pub record HalvesOf (P : Program) (h : Halves) : Type 0 where
   pub truths : setOf (h .truths .words) ≡ M P

@@ -1,20 +1,17 @@
 // The model of a book and the facts put in: M, N, whether they are contradictory, and the verdict of a literal. A set grows by passes over the
-// rules until a pass adds nothing; one piece of code serves Γ and Γs.
+// rules until a pass adds nothing. A pass takes the literals whose rules are shut: none for Γ, the complements of S for Γs(S).
 ghost use mathlib.Core.Path.{_≡_};
-ghost use Rattle.wfsx.specs.Sets.{_∖_};
-ghost use Rattle.wfsx.specs.Model.{holds, Γ};
+ghost use Rattle.wfsx.specs.Sets.{_⊆_};
+ghost use Rattle.wfsx.specs.Program.{withoutHeads};
+ghost use Rattle.wfsx.specs.Model.{holds, Γ, Γs};
 ghost use Rattle.litset.specs.Words.{setOf};
-ghost use Rattle.book.specs.Book.{entryOf, rulesIn, program, programOf};
-ghost use Rattle.fixpoint.specs.Pass.{InTables, shut, pass, version};
-ghost use Rattle.fixpoint.specs.Result.{ClashOf, HalvesOf, ModelOf, verdictIs, verdictIn};
+ghost use Rattle.book.specs.Book.{entryIs, rulesIn, program, programOf};
+ghost use Rattle.fixpoint.specs.Pass.{pass};
+ghost use Rattle.fixpoint.specs.Result.{HalvesOf, ModelOf, verdictIs, verdictIn};
 use book::Book;
+use book::Entry;
+use litset::Clash;
 use litset::LitSet;
-
-// The lowest-numbered name that has both literals in a set, if any.
-pub enum Clash {
-    None,
-    Name(usize),
-}
 
 pub enum Verdict {
     True,
@@ -35,110 +32,120 @@ struct Halves {
     nonfalse: LitSet,
 }
 
-// Whether rules for the literal are passed over: its complement is in s, where that is asked.
-fn is_shut(asks: bool, s: LitSet, l: usize) -> bool
-    ensures { λ r. ⌜ r ≡ shut asks (setOf (s .words)) l ⌝ }
+// Whether an entry holds over d and s.
+fn entry_holds(e: Entry, d: LitSet, s: LitSet) -> bool
+    ensures { λ r. ⌜ r ≡ holds (setOf (d .words)) (setOf (s .words)) (entryIs e) ⌝ }
 {
-    if asks {
-        litset::contains(s, litset::complement(l))
-    } else {
-        false
+    match e {
+        Entry::Positive(b) => {
+            return litset::contains(d, b);
+        }
+        Entry::Default(c) => {
+            return !litset::contains(s, c);
+        }
     }
 }
 
-// Whether a stored entry holds over d and s.
-fn entry_holds(e: u16, d: LitSet, s: LitSet) -> bool
-    ensures { λ r. ⌜ r ≡ holds (setOf (d .words)) (setOf (s .words)) (entryOf e) ⌝ }
-{
-    let n = book::wide(e);
-    let l = n / 2 % litset::CAPACITY;
-    if n % 2 == 0 {
-        litset::contains(d, l)
-    } else {
-        !litset::contains(s, l)
-    }
-}
-
-// One pass over the rules. A rule is passed over from its first body literal that doesn't hold; a later rule sees what an earlier one added.
+// One pass over the rules whose heads are not shut. A rule is passed over from its first body literal that doesn't hold; a later rule sees what an
+// earlier one added.
 fn add_heads<'a>(
     heads: &'a [u16],
     starts: &'a [u16],
     entries: &'a [u16],
     count: usize,
-    asks: bool,
+    shut: LitSet,
     s: LitSet,
     x: LitSet,
 ) -> LitSet
-    requires { ⌜ InTables (now heads) (now starts) count ⌝ }
     ensures { λ r. ⌜ setOf (r .words)
         ≡ pass (rulesIn (now (heads .entry)) (now (starts .entry)) (now (entries .entry)) count)
-        (shut asks (setOf (s .words))) (setOf (s .words)) (setOf (x .words)) ⌝ }
+        (setOf (shut .words)) (setOf (s .words)) (setOf (x .words)) ⌝ }
 {
     let mut y = x;
+    // A rule whose head is shut, or is in the set already, adds nothing: it is passed over at once.
+    let mut done = litset::union(x, shut);
     let mut r: usize = 0;
     'rules: while r < count {
-        let head = book::wide(heads[r]) % litset::CAPACITY;
-        if is_shut(asks, s, head) {
+        let head = book::head_at(heads, r);
+        if litset::contains(done, head) {
             r += 1;
             continue 'rules;
         }
-        let mut j = book::wide(starts[r]);
-        let to = book::least(book::wide(starts[r + 1]), entries.len());
-        while j < to {
-            if !entry_holds(entries[j], y, s) {
+        let mut j = book::body_start(starts, r);
+        let end = book::body_end(starts, entries, r);
+        while j < end {
+            if !entry_holds(book::entry_at(entries, j), y, s) {
                 r += 1;
                 continue 'rules;
             }
             j += 1;
         }
         y = litset::insert(y, head);
+        done = litset::insert(done, head);
         r += 1;
     }
     y
 }
 
-// The facts that are not passed over.
-fn open_facts(facts: LitSet, asks: bool, s: LitSet) -> LitSet
-    ensures { λ r. ⌜ setOf (r .words) ≡ setOf (facts .words) ∖ shut asks (setOf (s .words)) ⌝ }
-{
-    // Γ passes over none of them.
-    if !asks {
-        return facts;
-    }
-    let mut x = facts;
-    let mut l: usize = 0;
-    while l < litset::CAPACITY {
-        if is_shut(asks, s, l) {
-            x = litset::remove(x, l);
-        }
-        l += 1;
-    }
-    x
-}
-
-// Γ(s), or Γs(s) where the complement is asked for, of the first rules in the tables and the facts: passes until one adds nothing.
-fn gamma<'a>(
+// The least set that has the start and is closed under the rules that are not shut and that s keeps: passes until one adds nothing.
+fn least_closed<'a>(
     heads: &'a [u16],
     starts: &'a [u16],
     entries: &'a [u16],
     count: usize,
-    asks: bool,
-    facts: LitSet,
+    start: LitSet,
+    shut: LitSet,
     s: LitSet,
 ) -> LitSet
-    requires { ⌜ InTables (now heads) (now starts) count ⌝ }
     ensures { λ r. ⌜ setOf (r .words)
-        ≡ Γ (version asks (program (rulesIn (now (heads .entry)) (now (starts .entry)) (now (entries .entry)) count)
-        (setOf (facts .words)))) (setOf (s .words)) ⌝ }
+        ≡ Γ (program (withoutHeads (setOf (shut .words)) (rulesIn (now (heads .entry)) (now (starts .entry)) (now (entries .entry)) count))
+        (setOf (start .words))) (setOf (s .words)) ⌝ }
 {
-    let mut x = open_facts(facts, asks, s);
+    let mut x = start;
     loop {
-        let y = add_heads(heads, starts, entries, count, asks, s, x);
+        let y = add_heads(heads, starts, entries, count, shut, s, x);
         if litset::equal(x, y) {
             return y;
         }
         x = y;
     }
+}
+
+// Γ(s), where `inside` is known to lie in it.
+fn gamma_above<'a>(
+    heads: &'a [u16],
+    starts: &'a [u16],
+    entries: &'a [u16],
+    count: usize,
+    facts: LitSet,
+    s: LitSet,
+    inside: LitSet,
+) -> LitSet
+    requires { ⌜ setOf (inside .words) ⊆ Γ (program (rulesIn (now heads) (now starts) (now entries) count) (setOf (facts .words))) (setOf (s .words)) ⌝ }
+    ensures { λ r. ⌜ setOf (r .words)
+        ≡ Γ (program (rulesIn (now (heads .entry)) (now (starts .entry)) (now (entries .entry)) count)
+        (setOf (facts .words))) (setOf (s .words)) ⌝ }
+{
+    let start = litset::union(facts, inside);
+    least_closed(heads, starts, entries, count, start, litset::empty(), s)
+}
+
+// Γs(s).
+fn gamma_seminormal<'a>(
+    heads: &'a [u16],
+    starts: &'a [u16],
+    entries: &'a [u16],
+    count: usize,
+    facts: LitSet,
+    s: LitSet,
+) -> LitSet
+    ensures { λ r. ⌜ setOf (r .words)
+        ≡ Γs (program (rulesIn (now (heads .entry)) (now (starts .entry)) (now (entries .entry)) count)
+        (setOf (facts .words))) (setOf (s .words)) ⌝ }
+{
+    let shut = litset::complements(s);
+    let start = litset::difference(facts, shut);
+    least_closed(heads, starts, entries, count, start, shut, s)
 }
 
 // M and N of the first rules in the tables and the facts: I(k) until ΓΓs gives the same set.
@@ -149,14 +156,13 @@ fn settle<'a>(
     count: usize,
     facts: LitSet,
 ) -> Halves
-    requires { ⌜ InTables (now heads) (now starts) count ⌝ }
     ensures { λ r. ⌜ HalvesOf (program (rulesIn (now (heads .entry)) (now (starts .entry)) (now (entries .entry)) count)
         (setOf (facts .words))) r ⌝ }
 {
     let mut x = litset::empty();
     loop {
-        let n = gamma(heads, starts, entries, count, true, facts, x);
-        let m = gamma(heads, starts, entries, count, false, facts, n);
+        let n = gamma_seminormal(heads, starts, entries, count, facts, x);
+        let m = gamma_above(heads, starts, entries, count, facts, n, x);
         if litset::equal(x, m) {
             return Halves {
                 truths: m,
@@ -167,17 +173,30 @@ fn settle<'a>(
     }
 }
 
-fn first_clash(m: LitSet) -> Clash
-    ensures { λ r. ⌜ ClashOf (setOf (m .words)) r ⌝ }
+// Γ(s) of a book and the facts put in.
+pub fn gamma(book: Book, facts: LitSet, s: LitSet) -> LitSet
+    ensures { λ r. ⌜ setOf (r .words) ≡ Γ (programOf book (setOf (facts .words))) (setOf (s .words)) ⌝ }
 {
-    let mut n: usize = 0;
-    while n < litset::CAPACITY / 2 {
-        if litset::contains(m, 2 * n) & litset::contains(m, 2 * n + 1) {
-            return Clash::Name(n);
-        }
-        n += 1;
-    }
-    Clash::None
+    let count = book::rule_count(book);
+    let r = gamma_above(
+        &book.heads,
+        &book.starts,
+        &book.entries,
+        count,
+        facts,
+        s,
+        litset::empty(),
+    );
+    r
+}
+
+// Γs(s) of a book and the facts put in.
+pub fn gamma_s(book: Book, facts: LitSet, s: LitSet) -> LitSet
+    ensures { λ r. ⌜ setOf (r .words) ≡ Γs (programOf book (setOf (facts .words))) (setOf (s .words)) ⌝ }
+{
+    let count = book::rule_count(book);
+    let r = gamma_seminormal(&book.heads, &book.starts, &book.entries, count, facts, s);
+    r
 }
 
 // The model of a book and the facts put in.
@@ -188,7 +207,7 @@ pub fn model_of(book: Book, facts: LitSet) -> Model
     let h = settle(&book.heads, &book.starts, &book.entries, count, facts);
     let truths = h.truths;
     let nonfalse = h.nonfalse;
-    let clash = first_clash(truths);
+    let clash = litset::lowest_both(truths);
     Model {
         truths,
         nonfalse,

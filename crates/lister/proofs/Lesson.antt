@@ -13,14 +13,15 @@ use Rattle.wfsx.specs.Sets.{Set, members}
 use Rattle.wfsx.specs.Model.{M, N, Both, verdict}
 use Rattle.truth.proofs.Truth.{clash, decided, and-l, and-r, and-intro}
 use Rattle.wfsx.proofs.Operators.{Γ-least, M-from-N}
-use Rattle.litset.specs.Words.{capacity, setOf}
+use Rattle.litset.specs.Words.{capacity, setOf, ClashOf}
 use Rattle.litset.specs.declared.LitSet.{LitSet}
 use Rattle.book.specs.Book.{namesOf, rulesOf, programOf}
 use Rattle.book.specs.declared.Book.{Book}
 use Rattle.book.proofs.Heads.{program-heads, program-of}
-use Rattle.fixpoint.specs.Result.{ClashOf, ModelOf}
+use Rattle.fixpoint.specs.Result.{ModelOf}
 use Rattle.fixpoint.specs.declared.Model.{Model}
-use Rattle.fixpoint.proofs.Published.{clash-settles, verdict-same}
+use Rattle.litset.proofs.Names.{clash-settles}
+use Rattle.fixpoint.proofs.Published.{verdict-same}
 use Rattle.wfsx.specs.Program.{Program}
 use Rattle.lister.specs.Listing.{listingBy, clashFrom, clashIn, listingOf, verdictsBy, listingIn}
 

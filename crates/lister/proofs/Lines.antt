@@ -18,8 +18,8 @@ use Rattle.book.specs.Limits.{maxNames, maxRules, maxLength}
 use Rattle.book.proofs.Rows.{rows-none, rows-first, rows-length, row-at, rows-step, rows-end}
 use Rattle.book.proofs.Counts.{clamp-most}
 use Rattle.fixpoint.specs.declared.Model.{Model}
-use Rattle.fixpoint.specs.declared.Clash.{Clash}
-use Rattle.fixpoint.specs.declared.Clash.the-variants.{None, Name}
+use Rattle.litset.specs.declared.Clash.{Clash}
+use Rattle.litset.specs.declared.Clash.the-variants.{None, Name}
 use Rattle.lister.specs.Listing.{modelWord, contradictionWord, refusedWord, verdictWord, digits, field, line, nameLine, nameLines, listingBy, verdictsBy, listingIn, refusalOf}
 use Rattle.lister.specs.Steps.{Room, Put, countsTo, verdictsEnd}
 use Rattle.lister.proofs.Stored.{room-first, Left, left-step, left-none}

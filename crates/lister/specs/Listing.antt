@@ -13,8 +13,8 @@ use Rattle.book.specs.declared.Book.{Book}
 use Rattle.book.specs.Book.{namesOf, rulesOf}
 use Rattle.fixpoint.specs.Result.{verdictIn}
 use Rattle.fixpoint.specs.declared.Model.{Model}
-use Rattle.fixpoint.specs.declared.Clash.{Clash}
-use Rattle.fixpoint.specs.declared.Clash.the-variants.{None, Name}
+use Rattle.litset.specs.declared.Clash.{Clash}
+use Rattle.litset.specs.declared.Clash.the-variants.{None, Name}
 
 -- ---- words and numbers
 

@@ -9,9 +9,9 @@ ghost use Rattle.lister.specs.Listing.{verdictWord, digits, field, nameL
 ghost use Rattle.lister.specs.Buffer.{Writes};
 ghost use Rattle.lister.specs.Steps.{Room, Put, countsTo, verdictsEnd};
 use book::Book;
-use fixpoint::Clash;
 use fixpoint::Model;
 use fixpoint::Verdict;
+use litset::Clash;
 use litset::LitSet;
 
 // What became of a buffer: the listing's length, or that the buffer is shorter than the listing.

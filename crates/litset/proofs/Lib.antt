@@ -3,3 +3,5 @@ pub mod Bit
 pub mod Words
 pub mod Names
 pub mod Ones
+pub mod Room
+pub mod Made

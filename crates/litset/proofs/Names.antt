@@ -1,20 +1,20 @@
 -- The two literals of a name stand at an even bit and the next. So a word with each such pair of bits exchanged is the word of the complements, and
 -- the lowest even bit that is set in a word and in the word moved down by one is that of the lowest name with both literals.
 use mathlib.Core.Path.{_≡_, refl, sym, ap, ap₂, _∙_, fun-ext}
-use mathlib.Core.Bool.{Bool, true, false, not, _&&_, _||_, and-false, and-true, or-false}
+use mathlib.Core.Bool.{Bool, true, false, _&&_, _||_, and-false, and-true, or-false}
 use mathlib.Core.List.{List}
-use Prim.Native.Nat.{ℕ, zero, suc, _+_, _-_, _*_, _/_, _%_, _^_, _≤_, _<_}
+use Prim.Native.Nat.{ℕ, zero, suc, _+_, _-_, _*_, _/_, _%_, _^_, _<_}
 use native.Mathlib.Nat.{div-one, mul-mod-left}
 use native.Mathlib.Decide.{decLt, ℕ-discrete}
 use native.Mathlib.Omega.{arith}
-use lib.Bits.{bitAnd, bitOr, and-le-r}
+use lib.Bits.{bitAnd, and-le-r}
 use lib.Count.{trailingZeros, under}
 use lib.Dec.{eqb}
-use lib.ListN.{length, getD}
+use lib.ListN.{getD}
 use lib.Pow.{shl-exact, shl-shr, shr-shr}
 use borrow.Author.Tests.{eqb-true}
 use Rattle.truth.proofs.Truth.{clash, and-l, and-r, and-intro}
-use Rattle.wfsx.specs.Sets.{Set, _∈_}
+use Rattle.wfsx.specs.Sets.{Set}
 use Rattle.wfsx.specs.Program.{compl, complements}
 use Rattle.wfsx.specs.Model.{Both}
 use Rattle.wfsx.proofs.Program.{compl-plain, compl-negated}
@@ -217,13 +217,16 @@ module _ (ws : List ℕ) where
                 clash (both-at k i j (omega arith) (omega (arith, low)) b) (below-trailing 64 (pairs (getD ws i 0)) j below)
 
 -- a set has one clash
-pub clash-settles : (S : Set) (c d : Clash) → ClashOf S c → ClashOf S d → c ≡ d
-clash-settles S None None a b = refl
-clash-settles S None (Name n) a b = absurd (a n (b .0))
-clash-settles S (Name k) None a b = absurd (b k (a .0))
-clash-settles S (Name k) (Name n) a b = ap Name (go (decLt k n) (decLt n k))
+pub lowest-one : (S : Set) (k n : ℕ) → LowestBoth S k → LowestBoth S n → k ≡ n
+lowest-one S k n a b = go (decLt k n) (decLt n k)
   where
     go : Dec (k < n) → Dec (n < k) → k ≡ n
     go (yes h) q = absurd (b .1 k h (a .0))
     go (no h) (yes l) = absurd (a .1 n l (b .0))
     go (no h) (no l) = omega arith
+
+pub clash-settles : (S : Set) (c d : Clash) → ClashOf S c → ClashOf S d → c ≡ d
+clash-settles S None None a b = refl
+clash-settles S None (Name n) a b = absurd (a n (b .0))
+clash-settles S (Name k) None a b = absurd (b k (a .0))
+clash-settles S (Name k) (Name n) a b = ap Name (lowest-one S k n a b)

@@ -17,6 +17,10 @@ nWords = 4
 abbrev pub capacity : ℕ
 capacity = 64 * nWords
 
+-- those literals as a set
+abbrev pub room : Set
+room A = ltb A capacity
+
 -- bit k of w
 abbrev pub bit : ℕ → ℕ → Bool
 bit w k = eqb (w / 2 ^ k % 2) 1

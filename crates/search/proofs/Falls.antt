@@ -1,26 +1,16 @@
 -- The falling number of the walk: the literals outside the T-ancestors, weighted, and in a TU-tree the literals outside the local path. A T-node
 -- that goes on has a new T-ancestor, and a TU-node that goes on a longer path. Between two nodes stand the loop over rules, the loop over
 -- entries and the child, in this order: so each number is taken four times, with 3, 2 and 1 added.
-use mathlib.Core.Path.{_≡_, refl, sym}
-use mathlib.Core.Bool.{true, false}
-use mathlib.Core.List.{List}
+use mathlib.Core.Path.{_≡_}
+use mathlib.Core.Bool.{false}
 use Prim.Native.Nat.{ℕ, _+_, _*_, _<_}
 use native.Mathlib.Nat.{mul-le-mul-right, suc-mul}
 use native.Mathlib.Omega.{arith}
 use lib.ListN.{length}
-use Rattle.wfsx.specs.Sets.{Set, ∅, members}
+use Rattle.wfsx.specs.Sets.{Set, ∅}
 use Rattle.wfsx.specs.Trees.{Tree, T, TU}
-use Rattle.wfsx.proofs.Sets.{outside, outside-most, outside-add}
-use Rattle.wfsx.proofs.Members.{members-are}
 use Rattle.litset.specs.Words.{capacity, with}
-use Rattle.litset.proofs.Words.{with-room}
-
--- all literals that a set has room for
-unfoldable pub literals : List ℕ
-literals = members capacity (λ A. true)
-
-abbrev free : Set → ℕ
-free S = outside S literals
+use Rattle.litset.proofs.Room.{literals, free, free-most, free-with}
 
 abbrev weight : Set → ℕ
 weight S = free S * (length literals + 2)
@@ -37,13 +27,12 @@ child-size TU Y X = tu-size Y X + 1
 
 module _ (a : ℕ) (small : a < capacity) (S W : Set) (w : W ≡ with a S) (new : false ≡ S a) where
   fewer : free W < free S
-  unfolding literals
-  fewer = rw (w, with-room a S small) (outside-add S a (sym new) (members-are capacity (λ A. true) a .1 (refl, small)))
+  fewer = free-with a small S W w new
 
   -- from a T-node to its rules
   pub t-falls : (t : ℕ) → t-size S ≡ t → (Y : Set) → child-size T Y W + 2 < t
   unfolding t-size tu-size child-size
-  t-falls t e Y = omega (arith, fewer, outside-most ∅ literals, mul-le-mul-right (length literals + 2) fewer, suc-mul (free W) (length literals + 2))
+  t-falls t e Y = omega (arith, fewer, free-most ∅, mul-le-mul-right (length literals + 2) fewer, suc-mul (free W) (length literals + 2))
 
   -- from a TU-node to its rules
   pub tu-falls : (t : ℕ) (X : Set) → tu-size S X ≡ t → child-size TU W X + 2 < t

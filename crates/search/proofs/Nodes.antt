@@ -2,11 +2,10 @@
 use mathlib.Core.Path.{_≡_, refl, sym, _∙_, ap}
 use mathlib.Core.Bool.{Bool, true, false, not, _&&_, _||_, and-false, or-true, or-false}
 use mathlib.Core.List.{List}
-use Prim.Native.Nat.{ℕ, zero, suc, _%_, _≤_, _<_}
+use Prim.Native.Nat.{ℕ, _≤_, _<_}
 use native.Mathlib.Omega.{arith}
-use lib.ListN.{length, getD}
-use borrow.Author.Tests.{ne-eqb}
-use Rattle.wfsx.specs.Sets.{Set, _∈_, ∅, add}
+use lib.ListN.{length}
+use Rattle.wfsx.specs.Sets.{Set, ∅, add}
 use Rattle.wfsx.specs.Program.{compl, Entry, Rule, Program, positive, default}
 use Rattle.wfsx.specs.Model.{supported}
 use Rattle.wfsx.specs.Trees.{Tree, T, TU, child, tree, answer}
@@ -14,13 +13,11 @@ use Rattle.truth.proofs.Truth.{refuted}
 use Rattle.wfsx.proofs.Facts.{supported-facts}
 use Rattle.wfsx.proofs.Trees.{one-set-unfolds, complement-once, first-way, answer-is}
 use Rattle.litset.specs.Words.{nWords, capacity, setOf, with}
-use Rattle.litset.proofs.Words.{member-below, with-room}
+use Rattle.litset.proofs.Words.{member-room, with-room}
 use Rattle.book.specs.Limits.{maxRules}
-use Rattle.book.specs.Book.{rows, clamp, ruleAt, rulesIn, programOf}
+use Rattle.book.specs.Book.{clamp, rulesIn, programOf}
 use Rattle.book.specs.declared.Book.{Book}
-use Rattle.wfsx.proofs.Supported.{supported-none, supported-first}
-use Rattle.book.proofs.Rows.{rows-none, rows-first}
-use Rattle.book.proofs.Heads.{program-of}
+use Rattle.book.proofs.Heads.{past-unsupported, program-of}
 use Rattle.search.specs.Questions.{questionOf}
 use Rattle.search.specs.Walk.{programIn, childIn}
 
@@ -33,12 +30,9 @@ module _ (heads starts entries : List ℕ) (count : ℕ) (facts : List ℕ) wher
 
   -- ---- what the facts add to the rules
 
-  member-small : length facts ≡ nWords → (A : ℕ) → A ∈ setOf facts → A < capacity
-  member-small len A m = omega (arith, member-below facts A m)
-
   with-facts : length facts ≡ nWords → (f : Entry → Bool) (A : ℕ) → supported program f A ≡ (supported rules f A || setOf facts A)
   unfolding programIn
-  with-facts len f A = supported-facts rules capacity (setOf facts) (member-small len) f A
+  with-facts len f A = supported-facts rules capacity (setOf facts) (member-room facts len) f A
 
   -- ---- a node of a T-tree
 
@@ -105,16 +99,11 @@ module _ (heads starts entries : List ℕ) (count : ℕ) (facts : List ℕ) wher
 
   -- ---- a literal past the capacity
 
-  unsupported : (A : ℕ) → capacity ≤ A → (f : Entry → Bool) (r n : ℕ) → supported (rows (ruleAt heads starts entries) r n) f A ≡ false
-  unsupported A h f r zero = rw (rows-none (ruleAt heads starts entries) r) (supported-none f A)
-  unsupported A h f r (suc n) =
-      rw (rows-first (ruleAt heads starts entries) r n, supported-first (ruleAt heads starts entries r) (rows (ruleAt heads starts entries) (suc r) n) f A, ne-eqb (getD heads r 0 % capacity) A (λ e. omega arith)) (unsupported A h f (suc r) n)
-
   module _ (len : length facts ≡ nWords) (A : ℕ) (h : capacity ≤ A) where
     nothing : (f : Entry → Bool) → supported program f A ≡ false
     nothing f =
         with-facts len f A
-        ∙ rw (unsupported A h f 0 count) (refuted (λ m. let s : A < capacity = member-small len A m in absurd (omega arith)))
+        ∙ rw (past-unsupported heads starts entries count f A h) (refuted (λ m. let s : A < capacity = member-room facts len A m in absurd (omega arith)))
 
     t-fails : tree program T ∅ ∅ A ≡ false
     t-fails = one-set-unfolds program ∅ A ∙ nothing (child (tree program) T ∅ (add A ∅))

@@ -5,10 +5,11 @@ ghost use Rattle.wfsx.specs.Sets.{∅};
 ghost use Rattle.wfsx.specs.Model.{every, supported};
 ghost use Rattle.wfsx.specs.Trees.{tree, answer, T, TU};
 ghost use Rattle.litset.specs.Words.{capacity, setOf};
-ghost use Rattle.book.specs.Book.{rulesIn, ruleAt, programOf};
+ghost use Rattle.book.specs.Book.{entryIs, rulesIn, ruleAt, programOf};
 ghost use Rattle.search.specs.Questions.{treeOf, questionOf};
 ghost use Rattle.search.specs.Walk.{Lent, programIn, childIn};
 use book::Book;
+use book::Entry;
 use litset::LitSet;
 
 pub enum Tree {
@@ -174,7 +175,7 @@ fn some_rule<'a>(
     while r < count {
         let i = r;
         r += 1;
-        if book::wide(heads[i]) % litset::CAPACITY != a {
+        if book::head_at(heads, i) != a {
             continue;
         }
         if all_children(heads, starts, entries, count, facts, kind, i, path, above) {
@@ -182,6 +183,31 @@ fn some_rule<'a>(
         }
     }
     false
+}
+
+// The question that an entry asks: a literal, or `not` of it where `default` says so.
+struct Question {
+    literal: usize,
+    default: bool,
+}
+
+fn question_of(e: Entry) -> Question
+    ensures { λ r. ⌜ questionOf (r .literal) (r .default) ≡ entryIs e ⌝ }
+{
+    match e {
+        Entry::Positive(literal) => {
+            return Question {
+                literal,
+                default: false,
+            };
+        }
+        Entry::Default(literal) => {
+            return Question {
+                literal,
+                default: true,
+            };
+        }
+    }
 }
 
 // Whether all children under rule `i` hold.
@@ -201,10 +227,10 @@ fn all_children<'a>(
         (programIn (now (heads .entry)) (now (starts .entry)) (now (entries .entry)) count (facts .words))
         (treeOf kind) (setOf (path .words)) (setOf (above .words))) (ruleAt (now (heads .entry)) (now (starts .entry)) (now (entries .entry)) i .body) ⌝ }
 {
-    let end = book::least(book::wide(starts[i + 1]), entries.len());
-    let mut j = book::wide(starts[i]);
+    let end = book::body_end(starts, entries, i);
+    let mut j = book::body_start(starts, i);
     while j < end {
-        let e = book::wide(entries[j]);
+        let q = question_of(book::entry_at(entries, j));
         if !child(
             heads,
             starts,
@@ -212,8 +238,8 @@ fn all_children<'a>(
             count,
             facts,
             kind,
-            e / 2 % litset::CAPACITY,
-            e % 2 == 1,
+            q.literal,
+            q.default,
             path,
             above,
         ) {

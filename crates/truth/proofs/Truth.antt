@@ -64,6 +64,10 @@ or-r false b e = e
 pub or-none : (a b : Bool) → a ≡ false → b ≡ false → a || b ≡ false
 or-none a b p q = ap (λ (x : Bool). x || b) p ∙ q
 
+pub neither : (a b : Bool) → a || b ≡ false → (a ≡ false) × (b ≡ false)
+neither true b e = absurd (true≢false e)
+neither false b e = (refl, e)
+
 pub and-map : (a b : Bool) {c d : Bool} → (a ≡ true → c ≡ true) → (b ≡ true → d ≡ true) → a && b ≡ true → c && d ≡ true
 and-map a b {c} {d} f g h = and-intro c d (f (and-l a b h)) (g (and-r a b h))
 

@@ -5,39 +5,39 @@ use native.Mathlib.Omega.{arith}
 use borrow.Author.Tests.{not-true, not-false}
 use mathlib.Core.Path.{_≡_, refl, sym, _∙_}
 use Prim.Native.Nat.{_-_}
+use Rattle.wfsx.specs.Model.{holds}
 use Rattle.litset.specs.Words.{setOf}
-use Rattle.fixpoint.specs.Pass.{shut}
-use Rattle.fixpoint.proofs.Tables.{Passed, passed-none, passed-more, passed-fails, passed-all, Going, going-start, going-end, going-shut, going-fails, going-fires}
+use Rattle.book.proofs.Bodies.{BodyLeft, body-first, body-more, body-fails, body-over}
+use Rattle.fixpoint.proofs.Pass.{pass-there-shut}
+use Rattle.fixpoint.proofs.Tables.{Going, going-start, going-end, going-passed, going-fails, going-fires}
 use Rattle.fixpoint.proofs.add_heads.Statement.{statement}
 use Rattle.fixpoint.proofs.add_heads.Tie as tie
 
 abbrev Inv-loop : tie.InvT-loop
-Inv-loop heads starts entries count asks s y r₀ head j₀ to r j = (r ≡ r₀) × Passed starts entries (setOf (s .words)) (setOf (y .words)) r₀ j
+Inv-loop heads starts entries count s y done r₀ head j₀ end r j =
+    (r ≡ r₀) × BodyLeft (holds (setOf (y .words)) (setOf (s .words))) starts entries r₀ j
 
 abbrev μ-loop : tie.MeasureT-loop
-μ-loop heads starts entries count asks s y r₀ head j₀ to r j = to - j
+μ-loop heads starts entries count s y done r₀ head j₀ end r j = end - j
 
 abbrev Inv-rules : tie.InvT-rules
-Inv-rules heads starts entries count asks s y₀ r₀ y r =
-    Going heads starts entries (shut asks (setOf (s .words))) (setOf (s .words)) (setOf (y₀ .words)) (setOf (y .words)) count r
+Inv-rules heads starts entries count s y₀ done₀ r₀ y done r =
+    Going heads starts entries (setOf (done₀ .words)) (setOf (s .words)) (setOf (y₀ .words)) (setOf (y .words)) (setOf (done .words)) count r
 
 abbrev μ-rules : tie.MeasureT-rules
-μ-rules heads starts entries count asks s y₀ r₀ y r = count - r
+μ-rules heads starts entries count s y₀ done₀ r₀ y done r = count - r
+
+union-requires : tie.Need-union-requires Inv-loop μ-loop Inv-rules μ-rules
+union-requires c κs = search needs
 
 rules-holds : tie.Need-rules-holds Inv-loop μ-loop Inv-rules μ-rules
-rules-holds c = going-start
+rules-holds c = going-start _ (c .union .ensures)
 
-mul-wide : tie.Need-mul-wide Inv-loop μ-loop Inv-rules μ-rules
-mul-wide c = search needs
+head-at-requires : tie.Need-head-at-requires Inv-loop μ-loop Inv-rules μ-rules
+head-at-requires c κs = search needs
 
-shared-slice-read-wide : tie.Need-shared-slice-read-wide Inv-loop μ-loop Inv-rules μ-rules
-shared-slice-read-wide c = search needs
-
-wide-requires : tie.Need-wide-requires Inv-loop μ-loop Inv-rules μ-rules
-wide-requires c κs = search needs
-
-is-shut-requires : tie.Need-is-shut-requires Inv-loop μ-loop Inv-rules μ-rules
-is-shut-requires c κs = search needs
+contains-requires : tie.Need-contains-requires Inv-loop μ-loop Inv-rules μ-rules
+contains-requires c κs = search needs
 
 add-r : tie.Need-add-r Inv-loop μ-loop Inv-rules μ-rules
 add-r c = search needs
@@ -47,42 +47,20 @@ rules-less c = search needs
 
 rules-again : tie.Need-rules-again Inv-loop μ-loop Inv-rules μ-rules
 rules-again c =
-    let turn = c .before .before .before .before in
-    going-shut (turn .before .rules .inv) (turn .rules-test .taken) (c .before .before .wide .ensures) (sym (c .before .is-shut .ensures) ∙ c .if1 .taken)
+    let turn = c .before .before .before in
+    going-passed (turn .before .rules .inv) (turn .rules-test .taken) (c .before .before .head-at .ensures) (sym (c .before .contains .ensures) ∙ c .if1 .taken)
 
-mul-wide-2 : tie.Need-mul-wide-2 Inv-loop μ-loop Inv-rules μ-rules
-mul-wide-2 c = search needs
+body-start-requires : tie.Need-body-start-requires Inv-loop μ-loop Inv-rules μ-rules
+body-start-requires c κs = search needs
 
-shared-slice-read-wide-2 : tie.Need-shared-slice-read-wide-2 Inv-loop μ-loop Inv-rules μ-rules
-shared-slice-read-wide-2 c = search needs
-
-wide-requires-2 : tie.Need-wide-requires-2 Inv-loop μ-loop Inv-rules μ-rules
-wide-requires-2 c κs = search needs
-
-add-wide : tie.Need-add-wide Inv-loop μ-loop Inv-rules μ-rules
-add-wide c = search needs
-
-mul-wide-3 : tie.Need-mul-wide-3 Inv-loop μ-loop Inv-rules μ-rules
-mul-wide-3 c = search needs
-
-shared-slice-read-wide-3 : tie.Need-shared-slice-read-wide-3 Inv-loop μ-loop Inv-rules μ-rules
-shared-slice-read-wide-3 c = search needs
-
-wide-requires-3 : tie.Need-wide-requires-3 Inv-loop μ-loop Inv-rules μ-rules
-wide-requires-3 c κs = search needs
-
-least-requires : tie.Need-least-requires Inv-loop μ-loop Inv-rules μ-rules
-least-requires c κs = search needs
+body-end-requires : tie.Need-body-end-requires Inv-loop μ-loop Inv-rules μ-rules
+body-end-requires c κs = search needs
 
 loop-holds : tie.Need-loop-holds Inv-loop μ-loop Inv-rules μ-rules
-loop-holds c = (refl, passed-none (c .before .before .before .wide2 .ensures))
+loop-holds c = (refl, body-first (c .before .body-start .ensures))
 
-mul-entry-holds : tie.Need-mul-entry-holds Inv-loop μ-loop Inv-rules μ-rules
-mul-entry-holds c = search needs
-
-shared-slice-read-entry-holds :
-    tie.Need-shared-slice-read-entry-holds Inv-loop μ-loop Inv-rules μ-rules
-shared-slice-read-entry-holds c = search needs
+entry-at-requires : tie.Need-entry-at-requires Inv-loop μ-loop Inv-rules μ-rules
+entry-at-requires c κs = search needs
 
 entry-holds-requires : tie.Need-entry-holds-requires Inv-loop μ-loop Inv-rules μ-rules
 entry-holds-requires c κs = search needs
@@ -96,12 +74,10 @@ rules-less-2 c = search needs
 rules-again-2 : tie.Need-rules-again-2 Inv-loop μ-loop Inv-rules μ-rules
 rules-again-2 c =
     let inner = c .before .before .before .before in
-    let turn = inner .before .before .before .before .before .before .before .before .before .before in
-    let to = inner .before .least .ensures in
-    let next = inner .before .before .wide3 .ensures in
-    let here = (sym (c .before .entry-holds .ensures) ∙ not-true (c .before .entry-holds .result) (c .if2 .taken)) in
+    let turn = inner .before .before .before .before .before .before in
+    let end = inner .before .body-end .ensures in
     rw (inner .loop .inv .0)
-    (going-fails (turn .before .rules .inv) (turn .rules-test .taken) (passed-fails (inner .loop .inv .1) (omega arith, omega arith) here))
+    (going-fails (turn .before .rules .inv) (turn .rules-test .taken) (body-fails (inner .loop .inv .1) (omega arith) (rw (← c .before .before .entry-at .ensures) (sym (c .before .entry-holds .ensures) ∙ not-true (c .before .entry-holds .result) (c .if2 .taken)))))
 
 add-j : tie.Need-add-j Inv-loop μ-loop Inv-rules μ-rules
 add-j c = search needs
@@ -112,13 +88,14 @@ loop-less c = search needs
 loop-again : tie.Need-loop-again Inv-loop μ-loop Inv-rules μ-rules
 loop-again c =
     let inner = c .before .before .before .before in
-    let to = inner .before .least .ensures in
-    let next = inner .before .before .wide3 .ensures in
-    let here = (sym (c .before .entry-holds .ensures) ∙ not-false (c .before .entry-holds .result) (c .if2 .left)) in
-    (inner .loop .inv .0, passed-more (inner .loop .inv .1) (omega arith, omega arith) here)
+    let end = inner .before .body-end .ensures in
+    (inner .loop .inv .0, body-more (inner .loop .inv .1) (omega arith) (rw (← c .before .before .entry-at .ensures) (sym (c .before .entry-holds .ensures) ∙ not-false (c .before .entry-holds .result) (c .if2 .left))))
 
 insert-requires : tie.Need-insert-requires Inv-loop μ-loop Inv-rules μ-rules
 insert-requires c κs = search needs
+
+insert-requires-2 : tie.Need-insert-requires-2 Inv-loop μ-loop Inv-rules μ-rules
+insert-requires-2 c κs = search needs
 
 add-r-3 : tie.Need-add-r-3 Inv-loop μ-loop Inv-rules μ-rules
 add-r-3 c = search needs
@@ -128,17 +105,18 @@ rules-less-3 c = search needs
 
 rules-again-3 : tie.Need-rules-again-3 Inv-loop μ-loop Inv-rules μ-rules
 rules-again-3 c =
-    let inner = c .before .before in
-    let tested = inner .before .before .before .before .before .before in
-    let turn = tested .before .before .before .before in
-    let to = inner .before .least .ensures in
-    let next = inner .before .before .wide3 .ensures in
-    let free = (sym (tested .before .is-shut .ensures) ∙ tested .if1 .left) in
-    let all = passed-all (inner .loop .inv .1) (omega arith) in
-    rw (inner .loop .inv .0) (going-fires (turn .before .rules .inv) (turn .rules-test .taken) (tested .before .before .wide .ensures) free all (c .insert .ensures))
+    let inner = c .before .before .before in
+    let tested = inner .before .before .before in
+    let turn = tested .before .before .before in
+    let end = inner .before .body-end .ensures in
+    let all = body-over (inner .loop .inv .1) (omega arith) in
+    rw (inner .loop .inv .0)
+    (going-fires (turn .before .rules .inv) (turn .rules-test .taken) (tested .before .before .head-at .ensures) (sym (tested .before .contains .ensures) ∙ tested .if1 .left) all (c .before .insert .ensures) (c .insert2 .ensures))
 
 returns : tie.Need-returns Inv-loop μ-loop Inv-rules μ-rules
-returns c = going-end (c .before .rules .inv) (c .rules-test .left)
+returns c =
+    let start = c .before .before in
+    going-end (c .before .rules .inv) (c .rules-test .left) ∙ pass-there-shut _ _ _ _ _ _ (start .union .ensures) (λ A a. a)
 
 pub add-heads-spec : {M : Type 1} → statement M
 add-heads-spec =
@@ -148,25 +126,17 @@ add-heads-spec =
     μ-loop
     Inv-rules
     μ-rules
+    union-requires
     rules-holds
-    mul-wide
-    shared-slice-read-wide
-    wide-requires
-    is-shut-requires
+    head-at-requires
+    contains-requires
     add-r
     rules-less
     rules-again
-    mul-wide-2
-    shared-slice-read-wide-2
-    wide-requires-2
-    add-wide
-    mul-wide-3
-    shared-slice-read-wide-3
-    wide-requires-3
-    least-requires
+    body-start-requires
+    body-end-requires
     loop-holds
-    mul-entry-holds
-    shared-slice-read-entry-holds
+    entry-at-requires
     entry-holds-requires
     add-r-2
     rules-less-2
@@ -175,6 +145,7 @@ add-heads-spec =
     loop-less
     loop-again
     insert-requires
+    insert-requires-2
     add-r-3
     rules-less-3
     rules-again-3

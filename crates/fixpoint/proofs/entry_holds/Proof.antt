@@ -1,26 +1,29 @@
--- `entry_holds`: each arm is the case of `entryOf` that the entry's last bit picks.
+-- `entry_holds`: each arm is the case of the definition that it names.
 use borrow.Author.Needs.{needs}
-use mathlib.Core.Path.{sym, ap, _∙_}
+use mathlib.Core.Path.{ap}
 use mathlib.Core.Bool.{not}
-use Rattle.fixpoint.proofs.Tables.{entry-positive, entry-default}
 use Rattle.fixpoint.proofs.entry_holds.Statement.{statement}
 use Rattle.fixpoint.proofs.entry_holds.Tie as tie
 
-wide-requires : tie.Need-wide-requires
-wide-requires c κs = search needs
+enum-known-e : tie.Need-enum-known-e
+enum-known-e c = search needs
 
 contains-requires : tie.Need-contains-requires
 contains-requires c κs = search needs
 
+returns : tie.Need-returns
+returns c = rw (c .before .before .e .given .1) (c .contains .ensures)
+
+enum-known-e-2 : tie.Need-enum-known-e-2
+enum-known-e-2 c = search needs
+
 contains-requires-2 : tie.Need-contains-requires-2
 contains-requires-2 c κs = search needs
 
-returns : tie.Need-returns
-returns c = c .contains .ensures ∙ sym (entry-positive _ _ _ _ (c .before .before .wide .ensures) (c .before .if1 .taken))
-
 returns-2 : tie.Need-returns-2
-returns-2 c = ap not (c .contains2 .ensures) ∙ sym (entry-default _ _ _ _ (c .before .before .wide .ensures) (c .before .if1 .left))
+returns-2 c = rw (c .before .before .e2 .given .1) (ap not (c .contains2 .ensures))
 
 pub entry-holds-spec : {M : Type 1} → statement M
 entry-holds-spec =
-    tie.close (tie.spec wide-requires contains-requires contains-requires-2 returns returns-2)
+    tie.close
+    (tie.spec enum-known-e contains-requires returns enum-known-e-2 contains-requires-2 returns-2)

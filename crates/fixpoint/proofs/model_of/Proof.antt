@@ -1,13 +1,7 @@
 -- `model_of`: the book's tables hold its rules, and the clash is looked for in M.
 use borrow.Author.Needs.{needs}
-use native.Mathlib.Omega.{arith}
-use mathlib.Core.Path.{_≡_}
-use Prim.Native.Nat.{_+_}
-use lib.ListN.{length}
 use Rattle.litset.specs.Words.{setOf}
 use Rattle.book.specs.Book.{programOf}
-use Rattle.book.specs.Limits.{maxRules}
-use Rattle.book.proofs.Counts.{clamp-most}
 use Rattle.book.proofs.Heads.{program-of}
 use Rattle.fixpoint.specs.Result.{HalvesOf}
 use Rattle.fixpoint.proofs.model_of.Statement.{statement}
@@ -16,31 +10,21 @@ use Rattle.fixpoint.proofs.model_of.Tie as tie
 rule-count-requires : tie.Need-rule-count-requires
 rule-count-requires c κs = search needs
 
-heads-size : (c : tie.Start) → length (c .args .t1 .heads) ≡ maxRules
-heads-size c = search needs
-
-starts-size : (c : tie.Start) → length (c .args .t1 .starts) ≡ maxRules + 1
-starts-size c = search needs
-
 settle-requires : tie.Need-settle-requires
-settle-requires c κs =
-    let S = c .before .before .before .before .before .before .before .before in
-    let heads = heads-size S in
-    let starts = starts-size S in
-    let most = clamp-most maxRules (S .args .t1 .rules) in
-    let count = c .before .before .before .before .before .before .before .rule-count .ensures in
-    (omega arith, omega arith)
+settle-requires c κs = search needs
 
-first-clash-requires : tie.Need-first-clash-requires
-first-clash-requires c κs = search needs
+lowest-both-requires : tie.Need-lowest-both-requires
+lowest-both-requires c κs = search needs
 
 returns : tie.Need-returns
 returns c =
     let settled = c .before .before .before in
     let counted = settled .before .before .before .before .before .before .before .before in
     let args = counted .before .args in
-    let h : HalvesOf (programOf (args .t1) (setOf (args .facts .words))) (settled .settle .result) = rw (program-of (args .t1) (setOf (args .facts .words))) (rw (counted .rule-count .ensures) at (settled .settle .ensures)) in
-    record { truths = h .truths; nonfalse = h .nonfalse; clash = rw (h .truths) at (c .first-clash .ensures) }
+    let h : HalvesOf (programOf (args .t1) (setOf (args .facts .words))) (settled .settle .result) =
+    rw (program-of (args .t1) (setOf (args .facts .words))) (rw (counted .rule-count .ensures) at (settled .settle .ensures)) in
+    record { truths = h .truths; nonfalse = h .nonfalse; clash = rw (h .truths) at (c .lowest-both .ensures) }
 
 pub model-of-spec : {M : Type 1} → statement M
-model-of-spec = tie.close (tie.spec rule-count-requires settle-requires first-clash-requires returns)
+model-of-spec =
+    tie.close (tie.spec rule-count-requires settle-requires lowest-both-requires returns)

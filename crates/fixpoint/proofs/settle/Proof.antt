@@ -1,15 +1,14 @@
--- `settle`: the loop's invariant is that the set is one of the I(k); a round that adds something leaves fewer literals outside, and the set that
--- ΓΓs keeps is M.
+-- `settle`: the loop's invariant is that the set is one of the I(k); it lies in the next one, a round that adds something leaves fewer literals outside,
+-- and the set that ΓΓs keeps is M.
 use borrow.Author.Needs.{needs}
 use mathlib.Core.Path.{_≡_, sym, _∙_}
 use mathlib.Core.Bool.{true≢false}
 use lib.ListN.{length}
-use Rattle.wfsx.proofs.Operators.{Γs-is}
 use Rattle.litset.specs.Words.{nWords, setOf}
 use Rattle.litset.proofs.Words.{member-room}
+use Rattle.litset.proofs.Room.{free}
 use Rattle.book.specs.Book.{rulesIn, program}
-use Rattle.fixpoint.proofs.Room.{room}
-use Rattle.fixpoint.proofs.Growth.{Round, round-start, round-more, round-falls, round-end}
+use Rattle.fixpoint.proofs.Growth.{Round, round-start, round-inside, round-more, round-falls, round-end}
 use Rattle.fixpoint.proofs.settle.Statement.{statement}
 use Rattle.fixpoint.proofs.settle.Tie as tie
 
@@ -17,7 +16,7 @@ abbrev Inv-loop : tie.InvT-loop
 Inv-loop heads starts entries count facts x₀ x = Round (program (rulesIn heads starts entries count) (setOf (facts .words))) (setOf (x .words))
 
 abbrev μ-loop : tie.MeasureT-loop
-μ-loop heads starts entries count facts x₀ x = room (setOf (x .words))
+μ-loop heads starts entries count facts x₀ x = free (setOf (x .words))
 
 empty-requires : tie.Need-empty-requires Inv-loop μ-loop
 empty-requires c κs = search needs
@@ -25,11 +24,11 @@ empty-requires c κs = search needs
 loop-holds : tie.Need-loop-holds Inv-loop μ-loop
 loop-holds c = round-start _ (c .empty .ensures)
 
-gamma-requires : tie.Need-gamma-requires Inv-loop μ-loop
-gamma-requires c κs = search needs
+gamma-seminormal-requires : tie.Need-gamma-seminormal-requires Inv-loop μ-loop
+gamma-seminormal-requires c κs = search needs
 
-gamma-requires-2 : tie.Need-gamma-requires-2 Inv-loop μ-loop
-gamma-requires-2 c κs = search needs
+gamma-above-requires : tie.Need-gamma-above-requires Inv-loop μ-loop
+gamma-above-requires c κs = round-inside _ (c .before .loop .inv) (c .gamma-seminormal .ensures)
 
 equal-requires : tie.Need-equal-requires Inv-loop μ-loop
 equal-requires c κs = search needs
@@ -38,18 +37,18 @@ returns : tie.Need-returns Inv-loop μ-loop
 returns c =
     let turn = c .before .before .before .before in
     let same = c .before .equal .ensures .0 (c .if1 .taken) in
-    let found = round-end _ (turn .loop .inv) (c .before .before .before .gamma .ensures ∙ sym (Γs-is _ _)) (c .before .before .gamma2 .ensures) same in
+    let found = round-end _ (turn .loop .inv) (c .before .before .before .gamma-seminormal .ensures) (c .before .before .gamma-above .ensures) same in
     record { truths = found .0; nonfalse = found .1 }
 
 loop-less : tie.Need-loop-less Inv-loop μ-loop
 loop-less c =
-    let ws = c .before .before .gamma2 .result .words in
+    let ws = c .before .before .gamma-above .result .words in
     let size : length ws ≡ nWords = search needs in
-    round-falls _ (c .before .before .before .before .loop .inv) (c .before .before .before .gamma .ensures ∙ sym (Γs-is _ _)) (c .before .before .gamma2 .ensures)
+    round-falls _ (c .before .before .before .before .loop .inv) (c .before .before .before .gamma-seminormal .ensures) (c .before .before .gamma-above .ensures)
     (member-room ws size) (λ same. true≢false (sym (c .before .equal .ensures .1 same) ∙ c .if1 .left))
 
 loop-again : tie.Need-loop-again Inv-loop μ-loop
-loop-again c = round-more _ (c .before .before .before .before .loop .inv) (c .before .before .before .gamma .ensures ∙ sym (Γs-is _ _)) (c .before .before .gamma2 .ensures)
+loop-again c = round-more _ (c .before .before .before .before .loop .inv) (c .before .before .before .gamma-seminormal .ensures) (c .before .before .gamma-above .ensures)
 
 pub settle-spec : {M : Type 1} → statement M
 settle-spec =
@@ -59,8 +58,8 @@ settle-spec =
     μ-loop
     empty-requires
     loop-holds
-    gamma-requires
-    gamma-requires-2
+    gamma-seminormal-requires
+    gamma-above-requires
     equal-requires
     returns
     loop-less

@@ -3,7 +3,7 @@
 use borrow.Author.Needs.{needs}
 use native.Mathlib.Omega.{arith}
 use mathlib.Core.Path.{_≡_, sym, _∙_}
-use Prim.Native.Nat.{ℕ, _*_, _-_, _/_, _≤_}
+use Prim.Native.Nat.{_*_, _-_, _≤_}
 use lib.Count.{trailing-le}
 use lib.ListN.{length, getD}
 use mir.Syntax.{w64}

@@ -7,12 +7,13 @@ use Prim.Native.Nat.{ℕ, _+_, _-_, _<_}
 use native.Mathlib.Omega.{arith}
 use borrow.Author.Needs.{needs}
 use borrow.Author.Tests.{not-true, not-false}
-use lib.ListN.{length, getD}
 use Rattle.litset.specs.Words.{setOf}
-use Rattle.book.specs.Book.{ruleAt}
-use Rattle.search.specs.Questions.{treeOf}
+use Rattle.book.specs.Book.{bodyEnd, entryAt, ruleAt}
+use Rattle.search.specs.Questions.{treeOf, questionOf}
 use Rattle.search.specs.Walk.{programIn, childIn}
-use Rattle.search.proofs.Loops.{RulesLeft, rules-first, rules-other, rules-fail, rules-hold, rules-over, EntriesLeft, entries-first, entries-more, entries-fail, entries-over}
+use Rattle.search.proofs.Loops.{RulesLeft, rules-first, rules-other, rules-fail, rules-hold, rules-over, asked-below}
+use Rattle.book.proofs.Bodies.{BodyLeft, body-first, body-more, body-fails, body-over}
+use Rattle.book.proofs.Heads.{entry-below}
 use Rattle.search.proofs.Nodes.{t-pruned, t-fact, t-rules, tu-pruned, tu-blocked, tu-fact, tu-rules, T-positive, T-default, TU-positive, TU-default}
 use Rattle.litset.proofs.Words.{compl-small}
 use Rattle.search.proofs.Falls.{t-size, tu-size, child-size, t-falls, tu-falls, complement-falls, T-t-falls, T-tu-falls, TU-t-falls, TU-tu-falls}
@@ -36,9 +37,12 @@ use Rattle.search.proofs.+all_children+child+some_rule+t_node+tu_node.L
 use Rattle.litset.proofs.contains.Reads as contains-reads
 use Rattle.litset.proofs.empty.Reads as empty-reads
 use Rattle.litset.proofs.insert.Reads as insert-reads
-use Rattle.book.proofs.least.Reads as least-reads
+use Rattle.book.proofs.body_start.Reads as body-start-reads
+use Rattle.book.proofs.body_end.Reads as body-end-reads
+use Rattle.book.proofs.entry_at.Reads as entry-at-reads
+use Rattle.search.proofs.question_of.Reads as question-of-reads
 use Rattle.litset.proofs.complement.Reads as complement-reads
-use Rattle.book.proofs.wide.Reads as wide-reads
+use Rattle.book.proofs.head_at.Reads as head-at-reads
 use Rattle.search.proofs.+all_children+child+some_rule+t_node+tu_node.{statement}
 use Rattle.search.proofs.+all_children+child+some_rule+t_node+tu_node.Tie.{close}
 
@@ -99,80 +103,69 @@ tu-node-below t = and 1 tu-node-kinds.ps (falls 1 tu-node-kinds.ps _<_ μ-tu-nod
 
 abbrev all-children-Inv-loop : all-children-lts.InvT-loop
 all-children-Inv-loop heads starts entries count facts kind i path above end j₀ j =
-    EntriesLeft (childIn (programIn heads starts entries count (facts .words)) (treeOf kind) (setOf (path .words)) (setOf (above .words))) entries (getD starts i 0) (getD starts (i + 1) 0) j
+    BodyLeft (childIn (programIn heads starts entries count (facts .words)) (treeOf kind) (setOf (path .words)) (setOf (above .words))) starts entries i j
 
 abbrev all-children-μ-loop : all-children-lts.MeasureT-loop
 all-children-μ-loop heads starts entries count facts kind i path above end j₀ j = end - j
 
 abbrev all-children-claims : ℕ → all-children-lts.Claims
-all-children-claims t = (wide-reads.Asked, wide-reads.Learnt, least-reads.Asked, least-reads.Learnt, child-below t, child.Post)
+all-children-claims t = (
+  body-end-reads.Asked,
+  body-end-reads.Learnt,
+  body-start-reads.Asked,
+  body-start-reads.Learnt,
+  entry-at-reads.Asked,
+  entry-at-reads.Learnt,
+  question-of-reads.Asked,
+  question-of-reads.Learnt,
+  child-below t,
+  child.Post,
+)
 
--- in the loop the entry is one of the rule's, and is in the table
+-- in the loop the place is one of the rule's body
 all-children-in : (t : ℕ) (q : all-children-lts.In-loop (all-children-claims t) (all-children-at t) all-children.Post all-children-Inv-loop all-children-μ-loop)
-    → (q .before .loop .j < getD (q .before .before .before .before .before .before .before .before .before .before .args .starts .now) (q .before .before .before .before .before .before .before .before .before .before .args .i + 1) 0) × (q .before .loop .j < length (q .before .before .before .before .before .before .before .before .before .before .args .entries .now))
-all-children-in t q =
-    let least = q .before .before .before .before .least .ensures in
-    (omega (arith, q .loop-test .taken, least, q .before .before .before .before .before .wide .ensures), omega (arith, q .loop-test .taken, least))
+    → q .before .loop .j < bodyEnd (q .before .before .before .before .before .before .before .args .starts .now) (q .before .before .before .before .before .before .before .args .entries .now) (q .before .before .before .before .before .before .before .args .i)
+all-children-in t q = rw (q .before .before .before .body-end .ensures) at (q .loop-test .taken)
 
-all-children-add-wide : (t : ℕ)
-    → all-children-lts.Need-add-wide (all-children-claims t) (all-children-at t) all-children.Post all-children-Inv-loop all-children-μ-loop
-all-children-add-wide t c = search needs
+-- and the question is the entry there
+all-children-asked : (t : ℕ) (q : all-children-lts.After-question-of (all-children-claims t) (all-children-at t) all-children.Post all-children-Inv-loop all-children-μ-loop)
+    → questionOf (q .question-of .result .literal) (q .question-of .result .default) ≡ entryAt (q .before .before .before .before .before .before .before .before .before .args .entries .now) (q .before .before .before .loop .j)
+all-children-asked t q = q .question-of .ensures ∙ q .before .entry-at .ensures
 
-all-children-mul-wide : (t : ℕ)
-    → all-children-lts.Need-mul-wide (all-children-claims t) (all-children-at t) all-children.Post all-children-Inv-loop all-children-μ-loop
-all-children-mul-wide t c = search needs
+all-children-body-end-requires : (t : ℕ)
+    → all-children-lts.Need-body-end-requires (all-children-claims t) (all-children-at t) all-children.Post all-children-Inv-loop all-children-μ-loop
+all-children-body-end-requires t c κs = search needs
 
-all-children-shared-slice-read-wide : (t : ℕ)
-    → all-children-lts.Need-shared-slice-read-wide (all-children-claims t) (all-children-at t) all-children.Post all-children-Inv-loop all-children-μ-loop
-all-children-shared-slice-read-wide t c = search needs
-
-all-children-wide-requires : (t : ℕ)
-    → all-children-lts.Need-wide-requires (all-children-claims t) (all-children-at t) all-children.Post all-children-Inv-loop all-children-μ-loop
-all-children-wide-requires t c κs = search needs
-
-all-children-least-requires : (t : ℕ)
-    → all-children-lts.Need-least-requires (all-children-claims t) (all-children-at t) all-children.Post all-children-Inv-loop all-children-μ-loop
-all-children-least-requires t c κs = search needs
-
-all-children-mul-wide-2 : (t : ℕ)
-    → all-children-lts.Need-mul-wide-2 (all-children-claims t) (all-children-at t) all-children.Post all-children-Inv-loop all-children-μ-loop
-all-children-mul-wide-2 t c = search needs
-
-all-children-shared-slice-read-wide-2 : (t : ℕ)
-    → all-children-lts.Need-shared-slice-read-wide-2 (all-children-claims t) (all-children-at t) all-children.Post all-children-Inv-loop all-children-μ-loop
-all-children-shared-slice-read-wide-2 t c = search needs
-
-all-children-wide-requires-2 : (t : ℕ)
-    → all-children-lts.Need-wide-requires-2 (all-children-claims t) (all-children-at t) all-children.Post all-children-Inv-loop all-children-μ-loop
-all-children-wide-requires-2 t c κs = search needs
+all-children-body-start-requires : (t : ℕ)
+    → all-children-lts.Need-body-start-requires (all-children-claims t) (all-children-at t) all-children.Post all-children-Inv-loop all-children-μ-loop
+all-children-body-start-requires t c κs = search needs
 
 all-children-loop-holds : (t : ℕ)
     → all-children-lts.Need-loop-holds (all-children-claims t) (all-children-at t) all-children.Post all-children-Inv-loop all-children-μ-loop
-all-children-loop-holds t c = entries-first (c .wide2 .ensures)
+all-children-loop-holds t c = body-first (c .body-start .ensures)
 
-all-children-mul-wide-3 : (t : ℕ)
-    → all-children-lts.Need-mul-wide-3 (all-children-claims t) (all-children-at t) all-children.Post all-children-Inv-loop all-children-μ-loop
-all-children-mul-wide-3 t c = search needs
+all-children-entry-at-requires : (t : ℕ)
+    → all-children-lts.Need-entry-at-requires (all-children-claims t) (all-children-at t) all-children.Post all-children-Inv-loop all-children-μ-loop
+all-children-entry-at-requires t c κs = search needs
 
-all-children-shared-slice-read-wide-3 : (t : ℕ)
-    → all-children-lts.Need-shared-slice-read-wide-3 (all-children-claims t) (all-children-at t) all-children.Post all-children-Inv-loop all-children-μ-loop
-all-children-shared-slice-read-wide-3 t c = all-children-in t (c .before) .1
-
-all-children-wide-requires-3 : (t : ℕ)
-    → all-children-lts.Need-wide-requires-3 (all-children-claims t) (all-children-at t) all-children.Post all-children-Inv-loop all-children-μ-loop
-all-children-wide-requires-3 t c κs = search needs
+all-children-question-of-requires : (t : ℕ)
+    → all-children-lts.Need-question-of-requires (all-children-claims t) (all-children-at t) all-children.Post all-children-Inv-loop all-children-μ-loop
+all-children-question-of-requires t c κs = search needs
 
 all-children-child-requires : (t : ℕ)
     → all-children-lts.Need-child-requires (all-children-claims t) (all-children-at t) all-children.Post all-children-Inv-loop all-children-μ-loop
 all-children-child-requires t c κs =
-    let start = c .before .before .before .before .before .before .before .before .before .before .before .before in
-    (omega (arith, start .pre .0), (start .pre .1 .0, omega arith))
+    let start = c .before .before .before .before .before .before .before .before .before in
+    let asked = c .question-of .result in
+    let below = entry-below (start .args .entries .now) (c .before .before .before .loop .j) in
+    (omega (arith, start .pre .0), (start .pre .1 .0, asked-below (asked .literal) (asked .default) _ (all-children-asked t c) below))
 
 all-children-returns : (t : ℕ)
     → all-children-lts.Need-returns (all-children-claims t) (all-children-at t) all-children.Post all-children-Inv-loop all-children-μ-loop
 all-children-returns t c =
     let inside = all-children-in t (c .before .before .before .before) in
-    entries-fail (inside .0) (inside .1) (c .before .before .wide3 .ensures) (c .before .before .before .before .before .loop .inv) (sym (not-true _ (c .if1 .taken)) ∙ c .before .child .ensures)
+    sym (body-fails (c .before .before .before .before .before .loop .inv) inside
+    (rw (← all-children-asked t (c .before .before)) (sym (c .before .child .ensures) ∙ not-true _ (c .if1 .taken))))
 
 all-children-add-j : (t : ℕ)
     → all-children-lts.Need-add-j (all-children-claims t) (all-children-at t) all-children.Post all-children-Inv-loop all-children-μ-loop
@@ -186,14 +179,13 @@ all-children-loop-again : (t : ℕ)
     → all-children-lts.Need-loop-again (all-children-claims t) (all-children-at t) all-children.Post all-children-Inv-loop all-children-μ-loop
 all-children-loop-again t c =
     let inside = all-children-in t (c .before .before .before .before) in
-    entries-more (inside .0) (inside .1) (c .before .before .wide3 .ensures) (c .before .before .before .before .before .loop .inv) (sym (not-false _ (c .if1 .left)) ∙ c .before .child .ensures)
+    body-more (c .before .before .before .before .before .loop .inv) inside
+    (rw (← all-children-asked t (c .before .before)) (sym (c .before .child .ensures) ∙ not-false _ (c .if1 .left)))
 
 all-children-returns-2 : (t : ℕ)
     → all-children-lts.Need-returns-2 (all-children-claims t) (all-children-at t) all-children.Post all-children-Inv-loop all-children-μ-loop
 all-children-returns-2 t c =
-    entries-over
-    (λ h. omega (arith, c .loop-test .left, c .before .before .before .before .least .ensures, c .before .before .before .before .before .wide .ensures))
-    (c .before .loop .inv)
+    sym (body-over (c .before .loop .inv) (rw (c .before .before .before .body-end .ensures) at (c .loop-test .left)))
 
 abbrev child-claims : ℕ → child-lts.Claims
 child-claims t = (empty-reads.Asked, empty-reads.Learnt, tu-node-below t, tu-node.Post, t-node-below t, t-node.Post)
@@ -251,7 +243,7 @@ abbrev some-rule-μ-loop : some-rule-lts.MeasureT-loop
 some-rule-μ-loop heads starts entries count facts kind a path above r₀ r = count - r
 
 abbrev some-rule-claims : ℕ → some-rule-lts.Claims
-some-rule-claims t = (wide-reads.Asked, wide-reads.Learnt, all-children-below t, all-children.Post)
+some-rule-claims t = (head-at-reads.Asked, head-at-reads.Learnt, all-children-below t, all-children.Post)
 
 some-rule-loop-holds : (t : ℕ)
     → some-rule-lts.Need-loop-holds (some-rule-claims t) (some-rule-at t) some-rule.Post some-rule-Inv-loop some-rule-μ-loop
@@ -260,16 +252,9 @@ some-rule-loop-holds t c = rules-first
 some-rule-add-r : (t : ℕ) → some-rule-lts.Need-add-r (some-rule-claims t) (some-rule-at t) some-rule.Post some-rule-Inv-loop some-rule-μ-loop
 some-rule-add-r t c = search needs
 
-some-rule-mul-wide : (t : ℕ) → some-rule-lts.Need-mul-wide (some-rule-claims t) (some-rule-at t) some-rule.Post some-rule-Inv-loop some-rule-μ-loop
-some-rule-mul-wide t c = search needs
-
-some-rule-shared-slice-read-wide : (t : ℕ)
-    → some-rule-lts.Need-shared-slice-read-wide (some-rule-claims t) (some-rule-at t) some-rule.Post some-rule-Inv-loop some-rule-μ-loop
-some-rule-shared-slice-read-wide t c = search needs
-
-some-rule-wide-requires : (t : ℕ)
-    → some-rule-lts.Need-wide-requires (some-rule-claims t) (some-rule-at t) some-rule.Post some-rule-Inv-loop some-rule-μ-loop
-some-rule-wide-requires t c κs = search needs
+some-rule-head-at-requires : (t : ℕ)
+    → some-rule-lts.Need-head-at-requires (some-rule-claims t) (some-rule-at t) some-rule.Post some-rule-Inv-loop some-rule-μ-loop
+some-rule-head-at-requires t c κs = search needs
 
 some-rule-loop-less : (t : ℕ) → some-rule-lts.Need-loop-less (some-rule-claims t) (some-rule-at t) some-rule.Post some-rule-Inv-loop some-rule-μ-loop
 some-rule-loop-less t c = search needs
@@ -277,18 +262,18 @@ some-rule-loop-less t c = search needs
 some-rule-loop-again : (t : ℕ)
     → some-rule-lts.Need-loop-again (some-rule-claims t) (some-rule-at t) some-rule.Post some-rule-Inv-loop some-rule-μ-loop
 some-rule-loop-again t c =
-    rules-other (c .before .before .before .loop-test .taken) (λ e. c .if1 .taken (rw (c .before .wide .ensures) e)) (c .before .before .before .before .loop .inv)
+    rules-other (c .before .before .loop-test .taken) (λ e. c .if1 .taken (c .before .head-at .ensures ∙ e)) (c .before .before .before .loop .inv)
 
 some-rule-all-children-requires : (t : ℕ)
     → some-rule-lts.Need-all-children-requires (some-rule-claims t) (some-rule-at t) some-rule.Post some-rule-Inv-loop some-rule-μ-loop
 some-rule-all-children-requires t c κs =
-    let start = c .before .before .before .before .before .before .before .before in
-    (omega (arith, start .pre .0), (start .pre .1, c .before .before .before .loop-test .taken))
+    let start = c .before .before .before .before .before .before .before in
+    (omega (arith, start .pre .0), (start .pre .1, c .before .before .loop-test .taken))
 
 some-rule-returns : (t : ℕ) → some-rule-lts.Need-returns (some-rule-claims t) (some-rule-at t) some-rule.Post some-rule-Inv-loop some-rule-μ-loop
 some-rule-returns t c =
-    rules-hold (c .before .before .before .before .before .loop-test .taken) (rw (c .before .before .before .wide .ensures) at (c .before .before .if1 .left)) (sym (c .if2 .taken) ∙ c .before .all-children .ensures)
-    (c .before .before .before .before .before .before .loop .inv)
+    rules-hold (c .before .before .before .before .loop-test .taken) (sym (c .before .before .before .head-at .ensures) ∙ c .before .before .if1 .left) (sym (c .if2 .taken) ∙ c .before .all-children .ensures)
+    (c .before .before .before .before .before .loop .inv)
 
 some-rule-loop-less-2 : (t : ℕ)
     → some-rule-lts.Need-loop-less-2 (some-rule-claims t) (some-rule-at t) some-rule.Post some-rule-Inv-loop some-rule-μ-loop
@@ -297,7 +282,7 @@ some-rule-loop-less-2 t c = search needs
 some-rule-loop-again-2 : (t : ℕ)
     → some-rule-lts.Need-loop-again-2 (some-rule-claims t) (some-rule-at t) some-rule.Post some-rule-Inv-loop some-rule-μ-loop
 some-rule-loop-again-2 t c =
-    rules-fail (c .before .before .before .before .before .loop-test .taken) (sym (c .if2 .left) ∙ c .before .all-children .ensures) (c .before .before .before .before .before .before .loop .inv)
+    rules-fail (c .before .before .before .before .loop-test .taken) (sym (c .if2 .left) ∙ c .before .all-children .ensures) (c .before .before .before .before .before .loop .inv)
 
 some-rule-returns-2 : (t : ℕ) → some-rule-lts.Need-returns-2 (some-rule-claims t) (some-rule-at t) some-rule.Post some-rule-Inv-loop some-rule-μ-loop
 some-rule-returns-2 t c = rules-over (c .loop-test .left) (c .before .loop .inv)
@@ -400,18 +385,11 @@ pub +all-children+child+some-rule+t-node+tu-node-spec : {M : Type 1} → stateme
     all-children.Post
     all-children-Inv-loop
     all-children-μ-loop
-    (all-children-add-wide t)
-    (all-children-mul-wide t)
-    (all-children-shared-slice-read-wide t)
-    (all-children-wide-requires t)
-    (all-children-least-requires t)
-    (all-children-mul-wide-2 t)
-    (all-children-shared-slice-read-wide-2 t)
-    (all-children-wide-requires-2 t)
+    (all-children-body-end-requires t)
+    (all-children-body-start-requires t)
     (all-children-loop-holds t)
-    (all-children-mul-wide-3 t)
-    (all-children-shared-slice-read-wide-3 t)
-    (all-children-wide-requires-3 t)
+    (all-children-entry-at-requires t)
+    (all-children-question-of-requires t)
     (all-children-child-requires t)
     (all-children-returns t)
     (all-children-add-j t)
@@ -439,9 +417,7 @@ pub +all-children+child+some-rule+t-node+tu-node-spec : {M : Type 1} → stateme
     some-rule-μ-loop
     (some-rule-loop-holds t)
     (some-rule-add-r t)
-    (some-rule-mul-wide t)
-    (some-rule-shared-slice-read-wide t)
-    (some-rule-wide-requires t)
+    (some-rule-head-at-requires t)
     (some-rule-loop-less t)
     (some-rule-loop-again t)
     (some-rule-all-children-requires t)
