@@ -1,6 +1,6 @@
 -- Laws of `rows`: the values one by one, how many there are, and what a loop over a table needs.
-use mathlib.Core.Path.{_≡_, refl, ap, _∙_}
-use mathlib.Core.List.{[], _∷_}
+use mathlib.Core.Path.{_≡_, refl, ap, ap₂, _∙_}
+use mathlib.Core.List.{[], _∷_, _++_}
 use Prim.Native.Nat.{ℕ, zero, suc, _+_, _-_, _≤_, _<_}
 use native.Mathlib.Omega.{arith}
 use native.Mathlib.Numerals.{add-one}
@@ -41,3 +41,17 @@ module _ {X : Type 0} (f : ℕ → X) (k n : ℕ) where
   rows-end h =
       let none : n - k ≡ 0 = omega arith in
       rw none
+
+-- one row more at the end
+pub rows-last : {X : Type 0} (f : ℕ → X) (k n : ℕ) → rows f k (n + 1) ≡ rows f k n ++ (f (k + n) ∷ [])
+unfolding rows
+rows-last f k zero = let e : k ≡ k + 0 = omega arith in ap (λ (j : ℕ). f j ∷ []) e
+rows-last f k (suc n) =
+    let more : suc n + 1 ≡ suc (n + 1) = omega arith in
+    let e : suc k + n ≡ k + suc n = omega arith in
+    rw more (ap (λ l. f k ∷ l) (rows-last f (suc k) n ∙ ap (λ (j : ℕ). rows f (suc k) n ++ (f j ∷ [])) e))
+
+pub rows-same : {X : Type 0} (f g : ℕ → X) (k n : ℕ) → ((i : ℕ) → k ≤ i → i < k + n → f i ≡ g i) → rows f k n ≡ rows g k n
+unfolding rows
+rows-same f g k zero h = refl
+rows-same f g k (suc n) h = ap₂ (λ x l. x ∷ l) (h k (omega arith) (omega arith)) (rows-same f g (suc k) n (λ i low high. h i (omega arith) (omega arith)))
