@@ -6,3 +6,5 @@ pub mod Back
 pub mod Parts
 pub mod Counts
 pub mod Heads
+pub mod Placed
+pub mod Indexed
