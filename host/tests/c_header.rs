@@ -1,4 +1,7 @@
 //! The C header is one that a C compiler accepts, and a C program runs over the engine's archive.
+//! The tests say so and pass where no C compiler is found and nothing forbids skipping.
+
+mod skip;
 
 use std::path::{Path, PathBuf};
 use std::process::{Command, Output};
@@ -19,7 +22,9 @@ fn compile(more: &[&str]) -> Option<Output> {
     match output {
         Ok(output) => Some(output),
         Err(error) => {
-            println!("SKIPPED: the C compiler `{compiler}` doesn't start: {error}");
+            skip::skipped(&format!(
+                "the C compiler `{compiler}` doesn't start: {error}"
+            ));
             None
         }
     }

@@ -1,5 +1,7 @@
 //! The listing program compared with the second implementation: examples, edges, random and damaged
-//! files. The tests say so and pass where the program isn't built.
+//! files. The tests say so and pass where the program isn't built and nothing forbids skipping.
+
+mod skip;
 
 use mezhkura::gen::{self, Random, FULL, SMALL};
 use mezhkura::second::program_output;
@@ -21,13 +23,10 @@ fn program() -> Option<PathBuf> {
         None => repository().join("target/bin/listing"),
     };
     if !path.exists() {
-        // A gate that has built the program sets this, so that nothing is passed over there.
-        let needed = std::env::var_os("MEZHKURA_NO_SKIP").is_some();
-        assert!(!needed, "no {}", path.display());
-        println!(
-            "SKIPPED: no {}: run `rt check listing` first",
+        skip::skipped(&format!(
+            "no {}: run `rt check listing` first",
             path.display()
-        );
+        ));
         return None;
     }
     Some(path)

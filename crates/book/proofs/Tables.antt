@@ -40,6 +40,10 @@ padded-padded n w xs ys h l =
 
 -- ---- lists of parts
 
+pub joined-none : joined [] ≡ []
+unfolding joined
+joined-none = refl
+
 pub joined-more : (xs : List (List ℕ)) (y : List ℕ) → joined (xs ++ (y ∷ [])) ≡ joined xs ++ y
 unfolding joined
 joined-more [] y = append-nil y

@@ -2,13 +2,23 @@
 use mathlib.Core.Path.{_≡_, refl, sym, _∙_, ap, ap₂}
 use mathlib.Core.Logic.{⊎-elim, _↔_}
 use mathlib.Core.Bool.{Bool, true, false, cond}
-use mathlib.Core.List.{_∷_, List·Memᴰ·head, List·Memᴰ·tail, List·Memᴰ·cases-cons, List·Memᴰ·not-nil}
+use mathlib.Core.List.{[], _∷_, List·Memᴰ·head, List·Memᴰ·tail, List·Memᴰ·cases-cons, List·Memᴰ·not-nil}
 use Prim.Native.Nat.{ℕ, zero, suc, _+_, _≤_, _<_}
 use native.Mathlib.Omega.{arith}
 use native.Mathlib.Nat.{zero-lt-suc, zero-add, add-zero, suc-add}
 use native.Mathlib.Decide.{ℕ-discrete}
-use lib.ListN.{length}
+use lib.ListN.{length, getD}
 use Rattle.wfsx.specs.Sets.{Set, _∈_, _isIn_, membersFrom, members}
+
+-- ---- number by number
+
+pub members-none : (S : Set) (b : ℕ) → membersFrom S b 0 ≡ []
+unfolding membersFrom
+members-none S b = refl
+
+pub members-first : (S : Set) (b n : ℕ) → membersFrom S b (suc n) ≡ cond (S b) (b ∷ membersFrom S (suc b) n) (membersFrom S (suc b) n)
+unfolding membersFrom
+members-first S b n = refl
 
 -- ---- what is listed
 
@@ -42,6 +52,19 @@ listed S b (suc n) A h low high = go (listed S (suc b) n A h) (ℕ-discrete A b)
 pub members-are : (n : ℕ) (S : Set) (A : ℕ) → (A isIn members n S) ↔ ((A ∈ S) × (A < n))
 members-are n S A =
     (λ m. let r = listed-only S 0 n A m in let high = r .2 in (r .0, omega arith), λ r. let high = r .1 in listed S 0 n A (r .0) (omega arith) (omega arith))
+
+-- each place of the list has a number in bounds
+pub member-at : (S : Set) (b n i : ℕ) → i < length (membersFrom S b n) → getD (membersFrom S b n) i 0 < b + n
+unfolding membersFrom
+member-at S b zero i h = absurd (omega arith)
+member-at S b (suc n) i h = go (λ j k. let low = member-at S (suc b) n j k in omega arith) (S b) i h
+  where
+    go : ((j : ℕ) → j < length (membersFrom S (suc b) n) → getD (membersFrom S (suc b) n) j 0 < b + suc n) → (t : Bool) (j : ℕ)
+        → j < length (cond t (b ∷ membersFrom S (suc b) n) (membersFrom S (suc b) n))
+        → getD (cond t (b ∷ membersFrom S (suc b) n) (membersFrom S (suc b) n)) j 0 < b + suc n
+    go rest true zero k = omega arith
+    go rest true (suc j) k = rest j (omega arith)
+    go rest false j k = rest j k
 
 -- ---- how many are listed
 

@@ -1,0 +1,3 @@
+-- The laws of the index.
+pub mod Placed
+pub mod Indexed

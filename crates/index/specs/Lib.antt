@@ -1,0 +1,3 @@
+-- What the contracts of `index` cite.
+pub mod Index
+pub mod Passes
