@@ -17,7 +17,7 @@ use Rattle.litset.proofs.Words.{with-room}
 use Rattle.book.specs.Book.{rows, headAt, bodyOf, ruleAt, rulesIn}
 use Rattle.book.proofs.Rows.{rows-step, rows-end, rows-last, rows-same, rows-none}
 use Rattle.book.proofs.Heads.{head-below}
-use Rattle.fixpoint.specs.Pass.{listed, keptCount, keptRules, Passed}
+use Rattle.fixpoint.specs.Pass.{listed, keptCount, keptRules, PassedOver}
 use Rattle.fixpoint.proofs.Pass.{Going, going-start, going-passed, going-never, going-waits, going-fires, going-end}
 
 module _ (heads starts entries : List ℕ) where
@@ -43,8 +43,13 @@ module _ (heads starts entries : List ℕ) where
       }
 
   module _ {numbers₀ numbers : List ℕ} {n k i : ℕ} {B S X₀ X D : Set} (w : Walked numbers₀ numbers n k i B S X₀ X D) where
-    pub walked-end : (C : Set) → B ≡ X₀ ∪ C → n ≤ i → Passed (listed heads starts entries numbers₀ n) (listed heads starts entries numbers k) C S X₀ X
-    walked-end C d h = going-end C d (rw (rows-end (ruleOf numbers) i n h) at (w .going))
+    pub walked-end : (C : Set) → B ≡ X₀ ∪ C → n ≤ i → PassedOver heads starts entries numbers₀ n numbers k C S X₀ X
+    walked-end C d h =
+        record {
+          fewer = omega (arith, w .kept, w .within);
+          size = w .size;
+          passed = going-end C d (rw (rows-end (ruleOf numbers) i n h) at (w .going));
+        }
 
     -- r is the number at place i
     module _ (more : i < n) {r : ℕ} (is : r ≡ getD numbers i 0) where
@@ -99,9 +104,9 @@ module _ (heads starts entries : List ℕ) where
           → holds X S e ≡ false → k′ ≡ keptCount e m → numbers′ ≡ keptRules e l m q → Walked numbers₀ numbers′ n k′ (i + 1) B S X₀ X D
       walked-fails room a b c e one f x y = rw (x, y, a, b, c) (fails room e one f)
 
-    -- the same list and count under other names
-    pub walked-as : {numbers′ : List ℕ} {k′ : ℕ} → numbers′ ≡ numbers → k′ ≡ k → Walked numbers₀ numbers′ n k′ i B S X₀ X D
-    walked-as e q = rw (e, q) w
+    -- the same list, count and place under other names
+    pub walked-as : {numbers′ : List ℕ} {k′ i′ : ℕ} → numbers′ ≡ numbers → k′ ≡ k → i′ ≡ i → Walked numbers₀ numbers′ n k′ i′ B S X₀ X D
+    walked-as e q h = rw (e, q, h) w
 
   -- the numbers from 0 on list the rules of the tables
   pub listed-all : (numbers : List ℕ) (n : ℕ) → ((i : ℕ) → i < n → getD numbers i 0 ≡ i) → listed heads starts entries numbers n ≡ rulesIn heads starts entries n

@@ -1,8 +1,8 @@
 -- What the functions over a list of rules tell each other; no public contract cites it. The heads in B are shut: their rules are passed over.
 use mathlib.Core.Path.{_≡_}
 use mathlib.Core.List.{List}
-use Prim.Native.Nat.{ℕ, _+_}
-use lib.ListN.{getD, set}
+use Prim.Native.Nat.{ℕ, _+_, _≤_}
+use lib.ListN.{length, getD, set}
 use Rattle.wfsx.specs.Sets.{Set, _∈_, _∉_, _⊆_}
 use Rattle.wfsx.specs.Program.{Entry, positive, default, Rule}
 use Rattle.wfsx.specs.Model.{holds, supported}
@@ -33,3 +33,9 @@ pub record Passed (P Q : List Rule) (B S X Y : Set) : Type 0 where
   pub part : (U : Set) → X ⊆ U → Full B S P U → Full B S Q U
   pub covers : (U : Set) → Y ⊆ U → Full B S Q U → Full B S P U
   pub still : X ≡ Y → Full B S Q Y
+
+-- A pass over the first n of the listed numbers leaves the first m of a list as long.
+pub record PassedOver (heads starts entries numbers : List ℕ) (n : ℕ) (numbers′ : List ℕ) (m : ℕ) (B S X Y : Set) : Type 0 where
+  pub fewer : m ≤ n
+  pub size : length numbers′ ≡ length numbers
+  pub passed : Passed (listed heads starts entries numbers n) (listed heads starts entries numbers′ m) B S X Y

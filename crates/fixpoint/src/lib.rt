@@ -6,7 +6,7 @@ ghost use Rattle.wfsx.specs.Program.{withoutHeads};
 ghost use Rattle.wfsx.specs.Model.{holds, Γ, Γs};
 ghost use Rattle.litset.specs.Words.{setOf};
 ghost use Rattle.book.specs.Book.{entryIs, rulesIn, program, programOf};
-ghost use Rattle.fixpoint.specs.Pass.{listed, keptCount, keptRules, Passed};
+ghost use Rattle.fixpoint.specs.Pass.{keptCount, keptRules, PassedOver};
 ghost use Rattle.book.specs.Limits.{maxRules};
 ghost use Prim.Native.Nat.{ℕ, _≤_, _<_};
 ghost use lib.ListN.{length, getD};
@@ -71,8 +71,8 @@ struct Grown {
     left: usize,
 }
 
-// One pass over the first n listed rules, but for those whose heads are shut. A rule is passed over from its first body literal that doesn't hold;
-// a later rule sees what an earlier one added.
+// One pass over the first n listed rules. A rule whose head is shut, or is in the set already, adds nothing and is passed over at once; any other is
+// passed over from its first body literal that doesn't hold. A later rule sees what an earlier one added.
 fn add_heads<'a>(
     heads: &'a [u16],
     starts: &'a [u16],
@@ -84,20 +84,15 @@ fn add_heads<'a>(
     x: LitSet,
 ) -> Grown
     requires { ⌜ n ≤ length (now rules) ⌝ }
-    ensures { λ r. ⌜ (r .left ≤ n) × (length (now (rules .exit)) ≡ length (now (rules .entry))) × Passed
-        (listed (now (heads .entry)) (now (starts .entry)) (now (entries .entry)) (now (rules .entry)) n)
-        (listed (now (heads .entry)) (now (starts .entry)) (now (entries .entry)) (now (rules .exit)) (r .left))
+    ensures { λ r. ⌜ PassedOver (now (heads .entry)) (now (starts .entry)) (now (entries .entry)) (now (rules .entry)) n (now (rules .exit)) (r .left)
         (setOf (shut .words)) (setOf (s .words)) (setOf (x .words)) (setOf (r .set .words)) ⌝ }
 {
     let mut y = x;
-    // A rule whose head is shut, or is in the set already, adds nothing: it is passed over at once.
     let mut done = litset::union(x, shut);
     let mut k: usize = 0;
-    let mut i: usize = 0;
-    'rules: while i < n {
+    'rules: for i in 0..n {
         let number = rules[i];
         let r = book::number_at(rules, i);
-        i += 1;
         let head = book::head_at(heads, r);
         if litset::contains(done, head) {
             continue 'rules;

@@ -53,7 +53,7 @@ returns : tie.Need-returns Inv-loop μ-loop
 returns c =
     let turn = c .before .before .before .before .before .before in
     let start = turn .before .before .before .before .before .before .before in
-    let pass = c .before .before .before .before .add-heads .ensures .2 in
+    let pass = c .before .before .before .before .add-heads .ensures .passed in
     let same = c .before .equal .ensures .0 (c .if1 .taken) in
     closing-end _ _ _ _ (member-room (start .args .start .words) (start-size start)) (closing-more pass (turn .loop .inv .2)) (closing-still pass (turn .loop .inv .2) same)
 
@@ -61,13 +61,13 @@ loop-less : tie.Need-loop-less Inv-loop μ-loop
 loop-less c =
     let ws = c .before .before .before .before .add-heads .result .set .words in
     let size : length ws ≡ nWords = search needs in
-    closing-falls (c .before .before .before .before .add-heads .ensures .2) (member-room ws size) (λ same. true≢false (sym (c .before .equal .ensures .1 same) ∙ c .if1 .left))
+    closing-falls (c .before .before .before .before .add-heads .ensures .passed) (member-room ws size) (λ same. true≢false (sym (c .before .equal .ensures .1 same) ∙ c .if1 .left))
 
 loop-again : tie.Need-loop-again Inv-loop μ-loop
 loop-again c =
     let inv = c .before .before .before .before .before .before .loop .inv in
     let pass = c .before .before .before .before .add-heads .ensures in
-    (omega (arith, inv .0, pass .0), pass .1 ∙ inv .1, closing-more (pass .2) (inv .2))
+    (omega (arith, inv .0, pass .fewer), pass .size ∙ inv .1, closing-more (pass .passed) (inv .2))
 
 pub least-closed-spec : {M : Type 1} → statement M
 least-closed-spec =
