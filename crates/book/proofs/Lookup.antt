@@ -9,7 +9,7 @@ use native.Mathlib.Numerals.{add-one}
 use lib.ListN.{length, take, drop, getD, length-drop, drop-of-length-le}
 use lib.Seq.{take-all, take-nil}
 use Rattle.scan.proofs.Bytes.{same-refl, same-equal}
-use Rattle.book.specs.Book.{rows, clamp, nameAt, sameName, findFrom}
+use Rattle.book.specs.Book.{rows, clamp, nameAt, SameName, sameName, findFrom}
 use Rattle.book.specs.Limits.{maxLength}
 use Rattle.book.specs.declared.Found.the-variants.{Nothing, At}
 use Rattle.book.proofs.Rows.{rows-step, rows-end}
@@ -32,10 +32,10 @@ name-past text lengths k h = part-past text (16 * k) (clamp maxLength (getD leng
 
 -- ---- a name among names
 
--- two names are the same exactly where they are equal
-pub same-is-equal : (a b : List ℕ) → (sameName a b ≡ true) ↔ (a ≡ b)
-unfolding sameName
-same-is-equal a b = (same-equal a b, λ e. rw e (same-refl b))
+-- the test decides whether two names are the same
+pub same-decides : (a b : List ℕ) → (sameName a b ≡ true) ↔ SameName a b
+unfolding sameName SameName
+same-decides a b = (same-equal a b, λ e. rw e (same-refl b))
 
 module _ (k : ℕ) (name : List ℕ) where
   pub find-none : findFrom k name [] ≡ Nothing

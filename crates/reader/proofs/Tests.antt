@@ -19,9 +19,9 @@ use Rattle.scan.proofs.Bytes.{bytes-none, bytes-first, name-parts, parts-name}
 use Rattle.scan.proofs.Words.{IsWord, first-is, word-is}
 use Rattle.book.specs.Limits.{maxNames, maxRules, maxEntries}
 use Rattle.book.specs.Book.{sameName, findFrom}
-use Rattle.book.proofs.Lookup.{same-is-equal, find-none, find-first, find-later}
+use Rattle.book.proofs.Lookup.{same-decides, find-none, find-first, find-later}
 use Rattle.reader.specs.File.{Content, bodyLiterals, allFields, isLiteral, hasTilde, isFound, declared, wrongFields, headTilde, malformed, declaredBefore, usesUndeclared, beyondTable, maxBytes, unended}
-use Rattle.reader.specs.Conditions.{LetterByte, NameByte, NameText, Optional, LiteralText, TooLong, StrangeByte, LastLineOpen, SomeField, FieldsWrong, FormWrong, NameTaken, NameMissing, TableFull}
+use Rattle.reader.specs.Conditions.{LetterByte, NameByte, NameText, Optional, LiteralText, TooLong, StrangeByte, LastLineOpen, SomeField, FieldsWrong, FormWrong, Declared, NameTaken, NameMissing, TableFull}
 use Rattle.reader.proofs.Faults.{neither, each-field, each-passes, all-pass, fails-where, no-entries}
 
 -- ---- decided statements
@@ -151,18 +151,18 @@ not-literal f =
 
 -- ---- declared names
 
-found-is : (k : ℕ) (n : List ℕ) (names : List (List ℕ)) → (isFound (findFrom k n names) ≡ true) ↔ (n isIn names)
-found-is k n [] = rw (find-none k n) (λ e. absurd (true≢false (sym e)), λ m. absurd (List·Memᴰ·not-nil m))
+found-is : (k : ℕ) (n : List ℕ) (names : List (List ℕ)) → (isFound (findFrom k n names) ≡ true) ↔ Declared names n
+found-is k n [] = rw (find-none k n) (λ e. absurd (true≢false (sym e)), λ s. absurd (List·Memᴰ·not-nil (s .1)))
 found-is k n (m ∷ ms) = go (found-is (suc k) n ms) (sameName m n) refl
   where
-    go : ((isFound (findFrom (suc k) n ms) ≡ true) ↔ (n isIn ms)) → (t : Bool) → sameName m n ≡ t → (isFound (findFrom k n (m ∷ ms)) ≡ true) ↔ (n isIn m ∷ ms)
-    go rest true p = rw (find-first k n m ms p) (λ e. List·Memᴰ·head (sym (same-is-equal m n .0 p)), λ i. refl)
+    go : ((isFound (findFrom (suc k) n ms) ≡ true) ↔ Declared ms n) → (t : Bool) → sameName m n ≡ t → (isFound (findFrom k n (m ∷ ms)) ≡ true) ↔ Declared (m ∷ ms) n
+    go rest true p = rw (find-first k n m ms p) (λ e. (m, List·Memᴰ·head refl, same-decides m n .0 p), λ s. refl)
     go rest false p = rw (find-later k n m ms p) (
-      λ e. List·Memᴰ·tail (rest .0 e),
-      λ i. ⊎-elim (λ e. absurd (clash (same-is-equal m n .1 (sym e)) p)) (rest .1) (List·Memᴰ·cases-cons i),
+      λ e. let s = rest .0 e in (s .0, List·Memᴰ·tail (s .1), s .2),
+      λ s. ⊎-elim (λ e. absurd (clash (same-decides m n .1 (rw e at (s .2))) p)) (λ i. rest .1 (s .0, i, s .2)) (List·Memᴰ·cases-cons (s .1)),
     )
 
-pub declared-is : (names : List (List ℕ)) (n : List ℕ) → (declared names n ≡ true) ↔ (n isIn names)
+pub declared-is : (names : List (List ℕ)) (n : List ℕ) → (declared names n ≡ true) ↔ Declared names n
 declared-is names n = found-is 0 n names
 
 -- ---- numbers 4 to 8, by the first field
@@ -243,12 +243,11 @@ module _ (first : List ℕ) (others : List (List ℕ)) where
     where
       one : (declaredBefore d (wordOf first) others ≡ true) ↔ (NameTaken d (first ∷ others) ⊎ ((first ≡ ruleWord) × ⊥))
       one =
-          named-or-ruled (λ w. declaredBefore d w others) refl refl (some-field (λ n. not (declared (d .names) n)) (λ n. n isIn d .names) (λ n m. before n))
+          named-or-ruled (λ w. declaredBefore d w others) refl refl (some-field (λ n. not (declared (d .names) n)) (Declared (d .names)) (λ n m. before n))
           (λ s. (λ e. true≢false (sym e), λ z. absurd z))
         where
-          before : (n : List ℕ) → (not (declared (d .names) n) ≡ false) ↔ (n isIn d .names)
-          before n =
-              (λ e. declared-is (d .names) n .0 (not-false (declared (d .names) n) e), λ m. ap not (declared-is (d .names) n .1 m))
+          before : (n : List ℕ) → (not (declared (d .names) n) ≡ false) ↔ Declared (d .names) n
+          before n = (λ e. declared-is (d .names) n .0 (not-false (declared (d .names) n) e), λ m. ap not (declared-is (d .names) n .1 m))
 
   pub name-missing : (d : Content) → malformed (wordOf first) others ≡ false → (usesUndeclared d (wordOf first) others ≡ true) ↔ NameMissing d (first ∷ others)
   unfolding usesUndeclared malformed
@@ -257,7 +256,7 @@ module _ (first : List ℕ) (others : List (List ℕ)) where
       literals : first ≡ ruleWord → allFields isLiteral others ≡ true
       literals s = not-false (allFields isLiteral others) (neither (headTilde others) (not (allFields isLiteral others)) (rw (word-is RuleWord first s) at formed) .1)
 
-      missing : (f : List ℕ) → isLiteral f ≡ true → (declared (d .names) (nameOf f) ≡ false) ↔ ((n : List ℕ) × LiteralText f n × (n isIn d .names → ⊥))
+      missing : (f : List ℕ) → isLiteral f ≡ true → (declared (d .names) (nameOf f) ≡ false) ↔ ((n : List ℕ) × LiteralText f n × (Declared (d .names) n → ⊥))
       missing f l =
           let failed = fails (declared (d .names) (nameOf f)) (declared-is (d .names) (nameOf f)) in
           (λ e. (nameOf f, literal-is f .0 l, failed .0 e), λ r. failed .1 (rw (literal-name f (r .0) (r .1)) (r .2)))
@@ -265,7 +264,7 @@ module _ (first : List ℕ) (others : List (List ℕ)) where
       one : (usesUndeclared d (wordOf first) others ≡ true) ↔ (((first ≡ nameWord) × ⊥) ⊎ NameMissing d (first ∷ others))
       one =
           named-or-ruled (λ w. usesUndeclared d w others) refl refl (λ e. true≢false (sym e), λ z. absurd z)
-          (λ s. some-field (λ f. declared (d .names) (nameOf f)) (λ f. (n : List ℕ) × LiteralText f n × (n isIn d .names → ⊥))
+          (λ s. some-field (λ f. declared (d .names) (nameOf f)) (λ f. (n : List ℕ) × LiteralText f n × (Declared (d .names) n → ⊥))
           (λ f m. missing f (each-field isLiteral m (literals s))))
 
   pub table-full : (d : Content) → (beyondTable d (wordOf first) others ≡ true) ↔ TableFull d (first ∷ others)

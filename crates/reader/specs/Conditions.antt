@@ -11,6 +11,7 @@ use Rattle.wfsx.specs.Sets.{_isIn_}
 use Rattle.wfsx.specs.Program.{Rule}
 use Rattle.scan.specs.Text.{fields, nameWord, ruleWord, endWord}
 use Rattle.book.specs.Limits.{maxNames, maxRules, maxEntries, maxLength}
+use Rattle.book.specs.Book.{SameName}
 use Rattle.reader.specs.File.{Content, nothingYet, bodyLiterals, withLine, maxBytes, linesOf}
 
 -- ---- names and literals
@@ -77,13 +78,17 @@ FormWrong fs =
     ((fs startsWith nameWord) × SomeField fs (λ n. NameText n → ⊥))
     ⊎ ((fs startsWith ruleWord) × (((rest : List ℕ) × (getD fs 1 [] ≡ 126 ∷ rest)) ⊎ SomeField fs (λ f. (n : List ℕ) → LiteralText f n → ⊥)))
 
+-- one of the names declared before is the same name as n
+abbrev pub Declared : List (List ℕ) → List ℕ → Type 0
+Declared names n = (m : List ℕ) × (m isIn names) × SameName m n
+
 -- 6: a name declared before
 abbrev pub NameTaken : Content → List (List ℕ) → Type 0
-NameTaken d fs = (fs startsWith nameWord) × SomeField fs (λ n. n isIn d .names)
+NameTaken d fs = (fs startsWith nameWord) × SomeField fs (Declared (d .names))
 
 -- 7: a rule uses an undeclared name
 abbrev pub NameMissing : Content → List (List ℕ) → Type 0
-NameMissing d fs = (fs startsWith ruleWord) × SomeField fs (λ f. (n : List ℕ) × LiteralText f n × (n isIn d .names → ⊥))
+NameMissing d fs = (fs startsWith ruleWord) × SomeField fs (λ f. (n : List ℕ) × LiteralText f n × (Declared (d .names) n → ⊥))
 
 -- 8: one name, rule or body literal beyond the table
 abbrev pub TableFull : Content → List (List ℕ) → Type 0
