@@ -20,6 +20,7 @@ use Rattle.book.proofs.Counts.{clamp-most}
 use Rattle.fixpoint.specs.declared.Model.{Model}
 use Rattle.litset.specs.declared.Clash.{Clash}
 use Rattle.litset.specs.declared.Clash.the-variants.{None, Name}
+use Rattle.scan.specs.Text.{comma, newline}
 use Rattle.lister.specs.Listing.{modelWord, contradictionWord, refusedWord, verdictWord, digits, field, line, nameLine, nameLines, listingBy, verdictsBy, listingIn, refusalOf}
 use Rattle.lister.specs.Steps.{Room, Put, countsTo, verdictsEnd}
 use Rattle.lister.proofs.Stored.{room-first, Left, left-step, left-none}
@@ -27,7 +28,7 @@ use Rattle.lister.proofs.Digits.{digits-most}
 
 -- ---- a name's line, and the lines from name k on
 
-pub name-line-is : (v : ℕ → Verdict) (k : ℕ) (name : List ℕ) → nameLine v k name ≡ field (digits k) 44 ++ (field name 44 ++ verdictsEnd v k)
+pub name-line-is : (v : ℕ → Verdict) (k : ℕ) (name : List ℕ) → nameLine v k name ≡ field (digits k) comma ++ (field name comma ++ verdictsEnd v k)
 unfolding line
 name-line-is v k name = refl
 
@@ -56,11 +57,11 @@ module _ (v : ℕ → Verdict) (f : ℕ → List ℕ) (n k : ℕ) {all t u : Lis
 -- ---- the listing
 
 module _ (names : List (List ℕ)) (rules facts : ℕ) (v : ℕ → Verdict) where
-  pub clear-is : listingBy names rules facts v None ≡ field modelWord 44 ++ (countsTo 10 (length names) rules facts ++ nameLines v 0 names)
+  pub clear-is : listingBy names rules facts v None ≡ field modelWord comma ++ (countsTo newline (length names) rules facts ++ nameLines v 0 names)
   unfolding listingBy line
-  clear-is = append-assoc (field modelWord 44) (countsTo 10 (length names) rules facts) (nameLines v 0 names)
+  clear-is = append-assoc (field modelWord comma) (countsTo newline (length names) rules facts) (nameLines v 0 names)
 
-  pub clash-is : (n : ℕ) → listingBy names rules facts v (Name n) ≡ field contradictionWord 44 ++ (countsTo 44 (length names) rules facts ++ field (getD names n []) 10)
+  pub clash-is : (n : ℕ) → listingBy names rules facts v (Name n) ≡ field contradictionWord comma ++ (countsTo comma (length names) rules facts ++ field (getD names n []) newline)
   unfolding listingBy line
   clash-is n = simp append-assoc
 
@@ -72,16 +73,16 @@ module _ (b : Book) (facts : LitSet) (m : Model) {names rules putIn : ℕ} (ns :
   by-counts c e = rw (ns, rs, fs, e, rows-length (ruleAt (b .heads) (b .starts) (b .entries)) 0 (clamp maxRules (b .rules)))
 
   pub clear-parts : m .clash ≡ None
-      → listingIn b facts m ≡ field modelWord 44 ++ (countsTo 10 names rules putIn ++ nameLines (verdictsBy m) 0 (namesIn (b .text) (b .lengths) names))
+      → listingIn b facts m ≡ field modelWord comma ++ (countsTo newline names rules putIn ++ nameLines (verdictsBy m) 0 (namesIn (b .text) (b .lengths) names))
   clear-parts e =
       by-counts None e ∙ clear-is (namesIn (b .text) (b .lengths) names) rules putIn (verdictsBy m) ∙ rw (rows-length (nameAt (b .text) (b .lengths)) 0 names)
 
   pub clash-parts : (k : ℕ) → m .clash ≡ Name k
-      → listingIn b facts m ≡ field contradictionWord 44 ++ (countsTo 44 names rules putIn ++ field (getD (namesIn (b .text) (b .lengths) names) k []) 10)
+      → listingIn b facts m ≡ field contradictionWord comma ++ (countsTo comma names rules putIn ++ field (getD (namesIn (b .text) (b .lengths) names) k []) newline)
   clash-parts k e =
       by-counts (Name k) e ∙ clash-is (namesIn (b .text) (b .lengths) names) rules putIn (verdictsBy m) k ∙ rw (rows-length (nameAt (b .text) (b .lengths)) 0 names)
 
-pub refusal-is : (number at : ℕ) → refusalOf number at ≡ field refusedWord 44 ++ (field (digits number) 44 ++ field (digits at) 10)
+pub refusal-is : (number at : ℕ) → refusalOf number at ≡ field refusedWord comma ++ (field (digits number) comma ++ field (digits at) newline)
 unfolding refusalOf line
 refusal-is number at = refl
 
@@ -106,13 +107,13 @@ name-most text lengths k =
 
 counts-most : (stop names rules facts : ℕ) → names < 10 ^ 20 → rules < 10 ^ 20 → facts < 10 ^ 20 → length (countsTo stop names rules facts) ≤ 63
 counts-most stop names rules facts a b c =
-    let rest = field (digits rules) 44 ++ field (digits facts) stop in
+    let rest = field (digits rules) comma ++ field (digits facts) stop in
     omega (
       arith,
-      length-append (field (digits names) 44) rest,
-      length-append (field (digits rules) 44) (field (digits facts) stop),
-      number-most names 44 a,
-      number-most rules 44 b,
+      length-append (field (digits names) comma) rest,
+      length-append (field (digits rules) comma) (field (digits facts) stop),
+      number-most names comma a,
+      number-most rules comma b,
       number-most facts stop c,
     )
 
@@ -123,13 +124,13 @@ line-most v k name h l =
     omega (
       arith,
       ap length (name-line-is v k name),
-      length-append (field (digits k) 44) (field name 44 ++ verdictsEnd v k),
-      length-append (field name 44) (verdictsEnd v k),
-      length-append (field first 44) (field second 10),
-      length-field name 44,
-      length-field first 44,
-      length-field second 10,
-      number-most k 44 h,
+      length-append (field (digits k) comma) (field name comma ++ verdictsEnd v k),
+      length-append (field name comma) (verdictsEnd v k),
+      length-append (field first comma) (field second newline),
+      length-field name comma,
+      length-field first comma,
+      length-field second newline,
+      number-most k comma h,
       verdict-most (v (2 * k)),
       verdict-most (v (2 * k + 1)),
     )
@@ -160,32 +161,32 @@ module _ (text lengths : List ℕ) (n rules facts : ℕ) (v : ℕ → Verdict) (
   room-by None =
       let names = rows (nameAt text lengths) 0 n in
       let size = rows-length (nameAt text lengths) 0 n in
-      let head = countsTo 10 (length names) rules facts in
+      let head = countsTo newline (length names) rules facts in
       record {
         fits =
             omega (
               arith,
               ap length (clear-is names rules facts v),
-              length-append (field modelWord 44) (head ++ nameLines v 0 names),
+              length-append (field modelWord comma) (head ++ nameLines v 0 names),
               length-append head (nameLines v 0 names),
-              counts-most 10 (length names) rules facts (omega arith) fit fit',
+              counts-most newline (length names) rules facts (omega arith) fit fit',
               lines-most v (nameAt text lengths) (name-most text lengths) 0 n (omega arith),
             );
       }
   room-by (Name k) =
       let names = rows (nameAt text lengths) 0 n in
       let size = rows-length (nameAt text lengths) 0 n in
-      let head = countsTo 44 (length names) rules facts in
+      let head = countsTo comma (length names) rules facts in
       let last = getD names k [] in
       record {
         fits =
             omega (
               arith,
               ap length (clash-is names rules facts v k),
-              length-append (field contradictionWord 44) (head ++ field last 10),
-              length-append head (field last 10),
-              counts-most 44 (length names) rules facts (omega arith) fit fit',
-              length-field last 10,
+              length-append (field contradictionWord comma) (head ++ field last newline),
+              length-append head (field last newline),
+              counts-most comma (length names) rules facts (omega arith) fit fit',
+              length-field last newline,
               name-short text lengths n k,
             );
       }
@@ -199,8 +200,8 @@ listing-room b facts m =
 
 pub refusal-room : (number at : ℕ) → number < 10 ^ 20 → at < 10 ^ 20 → Room (refusalOf number at) 0
 refusal-room number at h l =
-    let rest = field (digits number) 44 ++ field (digits at) 10 in
+    let rest = field (digits number) comma ++ field (digits at) newline in
     record {
       fits =
-          omega (arith, ap length (refusal-is number at), length-append (field refusedWord 44) rest, length-append (field (digits number) 44) (field (digits at) 10), number-most number 44 h, number-most at 10 l);
+          omega (arith, ap length (refusal-is number at), length-append (field refusedWord comma) rest, length-append (field (digits number) comma) (field (digits at) newline), number-most number comma h, number-most at newline l);
     }

@@ -7,7 +7,7 @@ use native.Mathlib.Omega.{arith}
 use lib.ListN.{length, take, drop}
 use lib.Dec.{eqb}
 use Rattle.wfsx.specs.Program.{positive, default}
-use Rattle.scan.specs.Text.{lenTo, rest, tildes, minuses, nameOf}
+use Rattle.scan.specs.Text.{lenTo, rest, tildes, minuses, nameOf, comma}
 use Rattle.scan.proofs.Places.{rest-step, rest-none}
 use Rattle.scan.proofs.Forms.{lead-most}
 use Rattle.book.specs.Limits.{maxNames}
@@ -25,18 +25,18 @@ use Rattle.reader.specs.declared.Known.the-variants.{Undeclared, Entry}
 -- ---- a test of every field
 
 module _ (f : List ℕ → Bool) (l : List ℕ) (p : ℕ) where
-  module _ (e : ℕ) (h : p ≤ length l) (q : e ≡ p + lenTo 44 (drop p l)) where
-    pub fields-go : f (take (e - p) (drop p l)) ≡ true → allFields f (rest 44 l p) ≡ allFields f (rest 44 l (e + 1))
+  module _ (e : ℕ) (h : p ≤ length l) (q : e ≡ p + lenTo comma (drop p l)) where
+    pub fields-go : f (take (e - p) (drop p l)) ≡ true → allFields f (rest comma l p) ≡ allFields f (rest comma l (e + 1))
     unfolding allFields
-    fields-go t = ap (allFields f) (rest-step 44 l p e h q) ∙ rw t
+    fields-go t = ap (allFields f) (rest-step comma l p e h q) ∙ rw t
 
-    pub fields-stop : f (take (e - p) (drop p l)) ≡ false → allFields f (rest 44 l p) ≡ false
+    pub fields-stop : f (take (e - p) (drop p l)) ≡ false → allFields f (rest comma l p) ≡ false
     unfolding allFields
-    fields-stop t = ap (allFields f) (rest-step 44 l p e h q) ∙ rw t
+    fields-stop t = ap (allFields f) (rest-step comma l p e h q) ∙ rw t
 
-  pub fields-end : length l < p → allFields f (rest 44 l p) ≡ true
+  pub fields-end : length l < p → allFields f (rest comma l p) ≡ true
   unfolding allFields
-  fields-end h = ap (allFields f) (rest-none 44 l p h)
+  fields-end h = ap (allFields f) (rest-none comma l p h)
 
 -- ---- a name looked up
 

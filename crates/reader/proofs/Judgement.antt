@@ -7,7 +7,7 @@ use native.Mathlib.Omega.{arith}
 use lib.ListN.{length, getD, take, drop, replicate, length-map}
 use borrow.Author.Tests.{eq-eqb, ne-eqb, le-leb, lt-leb, lt-ltb, le-ltb}
 use Rattle.wfsx.specs.Program.{Rule}
-use Rattle.scan.specs.Text.{isText, allBytes, split, lenTo, rest, fields, isName, wordOf}
+use Rattle.scan.specs.Text.{isText, allBytes, split, lenTo, rest, fields, isName, wordOf, comma, newline}
 use Rattle.scan.specs.declared.Word.{Word}
 use Rattle.scan.specs.declared.Word.the-variants.{Name, Rule as RuleWord, End, Unknown}
 use Rattle.scan.proofs.Places.{rest-here, rest-step, rest-none, rest-within}
@@ -64,15 +64,15 @@ wrong-end others h = rw (ne-eqb (length others) 0 h)
 
 -- ---- the fields of a line whose first field ends at e
 
-module _ (line : List ℕ) (e : ℕ) (q : e ≡ 0 + lenTo 44 (drop 0 line)) where
-  pub first-field : fields line ≡ take (e - 0) (drop 0 line) ∷ rest 44 line (e + 1)
-  first-field = sym (rest-here 44 line 0 zero-le) ∙ rest-step 44 line 0 e zero-le q
+module _ (line : List ℕ) (e : ℕ) (q : e ≡ 0 + lenTo comma (drop 0 line)) where
+  pub first-field : fields line ≡ take (e - 0) (drop 0 line) ∷ rest comma line (e + 1)
+  first-field = sym (rest-here comma line 0 zero-le) ∙ rest-step comma line 0 e zero-le q
 
 -- one field behind the first
-pub only-field : (line : List ℕ) (p e : ℕ) → length (rest 44 line p) ≡ 1 → e ≡ p + lenTo 44 (drop p line) → rest 44 line p ≡ take (e - p) (drop p line) ∷ []
+pub only-field : (line : List ℕ) (p e : ℕ) → length (rest comma line p) ≡ 1 → e ≡ p + lenTo comma (drop p line) → rest comma line p ≡ take (e - p) (drop p line) ∷ []
 only-field line p e one q =
-    let step = rest-step 44 line p e (rest-within 44 line p (omega arith)) q in
-    step ∙ ap (λ (l : List (List ℕ)). take (e - p) (drop p line) ∷ l) (no-entries (rest 44 line (e + 1)) (omega (arith, ap length step)))
+    let step = rest-step comma line p e (rest-within comma line p (omega arith)) q in
+    step ∙ ap (λ (l : List (List ℕ)). take (e - p) (drop p line) ∷ l) (no-entries (rest comma line (e + 1)) (omega (arith, ap length step)))
 
 -- ---- what a line does to the tables
 
@@ -118,25 +118,25 @@ wrong-unknown others = refl
 -- ---- the lines one after the other
 
 module _ (d : Content) (number : ℕ) (b : List ℕ) (at : ℕ) where
-  module _ (e : ℕ) (h : at ≤ length b) (q : e ≡ at + lenTo 10 (drop at b)) where
+  module _ (e : ℕ) (h : at ≤ length b) (q : e ≡ at + lenTo newline (drop at b)) where
     pub lines-go : lineFault d (fields (take (e - at) (drop at b))) ≡ 0
-        → readLines d number (rest 10 b at) ≡ readLines (withLine d (fields (take (e - at) (drop at b)))) (number + 1) (rest 10 b (e + 1))
+        → readLines d number (rest newline b at) ≡ readLines (withLine d (fields (take (e - at) (drop at b)))) (number + 1) (rest newline b (e + 1))
     unfolding readLines
-    lines-go f = ap (readLines d number) (rest-step 10 b at e h q) ∙ rw f
+    lines-go f = ap (readLines d number) (rest-step newline b at e h q) ∙ rw f
 
-    pub lines-stop : (k : ℕ) → lineFault d (fields (take (e - at) (drop at b))) ≡ k → (k ≡ 0 → ⊥) → readLines d number (rest 10 b at) ≡ refused k number
+    pub lines-stop : (k : ℕ) → lineFault d (fields (take (e - at) (drop at b))) ≡ k → (k ≡ 0 → ⊥) → readLines d number (rest newline b at) ≡ refused k number
     unfolding readLines
-    lines-stop k f n = ap (readLines d number) (rest-step 10 b at e h q) ∙ rw (f, ne-eqb k 0 n)
+    lines-stop k f n = ap (readLines d number) (rest-step newline b at e h q) ∙ rw (f, ne-eqb k 0 n)
 
-  pub lines-end : length b < at → readLines d number (rest 10 b at) ≡ cond (d .ended) (accepted (d .names) (d .rules)) (refused 9 number)
+  pub lines-end : length b < at → readLines d number (rest newline b at) ≡ cond (d .ended) (accepted (d .names) (d .rules)) (refused 9 number)
   unfolding readLines
-  lines-end h = ap (readLines d number) (rest-none 10 b at h)
+  lines-end h = ap (readLines d number) (rest-none newline b at h)
 
 -- what has been read up to place `at`, and that what is left decides
 pub record ReadTo (b : List ℕ) (t : Counts) (at number : ℕ) (text lengths heads starts entries : List ℕ) : Type 0 where
   pub content : Content
   pub held : Holds content t text lengths heads starts entries
-  pub same : readLines content number (rest 10 b at) ≡ readLines nothingYet 1 (split 10 b)
+  pub same : readLines content number (rest newline b at) ≡ readLines nothingYet 1 (split newline b)
 
 pub read-none : (b : List ℕ)
     → ReadTo b noCounts 0 1 (replicate (maxLength * maxNames) 0) (replicate maxNames 0) (replicate maxRules 0) (replicate (maxRules + 1) 0) (replicate maxEntries 0)
@@ -149,7 +149,7 @@ read-none b =
         rules-held = record { counted = refl; used-is = refl; heads-are = sym heads-none; starts-are = sym starts-none; entries-are = sym entries-none; few = zero-le; room = zero-le };
         ended-is = refl;
       };
-      same = ap (readLines nothingYet 1) (rest-here 10 b 0 zero-le);
+      same = ap (readLines nothingYet 1) (rest-here newline b 0 zero-le);
     }
 
 -- the tables of what has been read are a book
@@ -220,8 +220,8 @@ module _ (file : List ℕ) where
   no-bytes e = rw (eq-eqb (length file) 0 e)
 
   module _ (some : length file ≡ 0 → ⊥) where
-    pub last-other : (getD file (length file - 1) 0 ≡ 10 → ⊥) → unended file ≡ true
-    last-other n = rw (ne-eqb (length file) 0 some, ne-eqb (getD file (length file - 1) 0) 10 n)
+    pub last-other : (getD file (length file - 1) 0 ≡ newline → ⊥) → unended file ≡ true
+    last-other n = rw (ne-eqb (length file) 0 some, ne-eqb (getD file (length file - 1) 0) newline n)
 
-    pub last-ends : getD file (length file - 1) 0 ≡ 10 → unended file ≡ false
-    last-ends e = rw (ne-eqb (length file) 0 some, eq-eqb (getD file (length file - 1) 0) 10 e)
+    pub last-ends : getD file (length file - 1) 0 ≡ newline → unended file ≡ false
+    last-ends e = rw (ne-eqb (length file) 0 some, eq-eqb (getD file (length file - 1) 0) newline e)

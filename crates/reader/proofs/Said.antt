@@ -13,7 +13,7 @@ use borrow.Author.Tests.{eqb-true, not-false}
 use Rattle.wfsx.specs.Sets.{_isIn_}
 use Rattle.wfsx.specs.Program.{Rule}
 use Rattle.truth.proofs.Truth.{clash}
-use Rattle.scan.specs.Text.{fields, wordOf, nameWord, endWord}
+use Rattle.scan.specs.Text.{fields, wordOf, nameWord, endWord, comma}
 use Rattle.scan.specs.declared.Word.{Word}
 use Rattle.scan.specs.declared.Word.the-variants.{Name, Rule as RuleWord, End, Unknown}
 use Rattle.scan.proofs.Words.{IsWord, first-is, word-is}
@@ -122,9 +122,9 @@ end-fields d (first ∷ x ∷ xs) e s =
 end-alone : (line : List ℕ) → fields line ≡ endWord ∷ [] → line ≡ endWord
 unfolding closed
 end-alone line e =
-    let whole : endWord ++ 44 ∷ [] ≡ line ++ 44 ∷ [] = fields-are line (endWord ∷ []) .0 e .0 in
-    let size : length line ≡ 3 = omega (arith, ap length whole, length-append line (44 ∷ [])) in
-    sym (take-append-seam line (44 ∷ [])) ∙ ap (take (length line)) (sym whole) ∙ ap (λ (n : ℕ). take n (endWord ++ 44 ∷ [])) size
+    let whole : endWord ++ comma ∷ [] ≡ line ++ comma ∷ [] = fields-are line (endWord ∷ []) .0 e .0 in
+    let size : length line ≡ 3 = omega (arith, ap length whole, length-append line (comma ∷ [])) in
+    sym (take-append-seam line (comma ∷ [])) ∙ ap (take (length line)) (sym whole) ∙ ap (λ (n : ℕ). take n (endWord ++ comma ∷ [])) size
 
 -- `end` has not come in the lines before, and is the last line
 abbrev EndLast : Content → List (List ℕ) → Type 0

@@ -12,7 +12,7 @@ use lib.ListN.{length, take, drop, length-append, length-map, length-drop, lengt
 use borrow.Author.Tests.{eqb-true, eqb-false, not-false}
 use Rattle.wfsx.specs.Program.{Rule}
 use Rattle.truth.proofs.Truth.{and-l, and-r}
-use Rattle.scan.specs.Text.{onto, split, fields, isName, wordOf, tildes, minuses, nameOf, nameWord, ruleWord, endWord}
+use Rattle.scan.specs.Text.{onto, split, fields, isName, wordOf, tildes, minuses, nameOf, nameWord, ruleWord, endWord, comma, newline}
 use Rattle.scan.specs.declared.Word.{Word}
 use Rattle.scan.specs.declared.Word.the-variants.{Name, Rule as RuleWord, End, Unknown}
 use Rattle.scan.proofs.Places.{split-none, split-stop, split-byte, split-some}
@@ -120,7 +120,7 @@ unfolding byteCount
 weight-lines d [] f = omega arith
 weight-lines d (line ∷ lines) f =
     let here = weight-fields d (fields line) (f .0) in
-    omega (arith, split-total 44 line, weight-lines (withLine d (fields line)) lines (f .1))
+    omega (arith, split-total comma line, weight-lines (withLine d (fields line)) lines (f .1))
 
 -- ---- the file
 
@@ -138,4 +138,4 @@ accepted-short file names rules e =
     let r = file-read file names rules e in
     let most = within-weight (saidBy nothingYet (linesOf file)) (within-lines nothingYet (linesOf file) within-nothing (r .lines-pass)) in
     let bytes = weight-lines nothingYet (linesOf file) (r .lines-pass) in
-    omega (arith, split-total 10 (take (length file - 1) file), length-take (length file - 1) file)
+    omega (arith, split-total newline (take (length file - 1) file), length-take (length file - 1) file)

@@ -6,16 +6,16 @@ use Prim.Native.Nat.{ℕ, _+_, _-_, _≤_, _<_}
 use lib.ListN.{length, take, drop, set}
 use lib.Seq.{sets}
 use Rattle.store.proofs.Stored.{sets-first}
-use Rattle.scan.specs.Text.{lenTo, rest}
+use Rattle.scan.specs.Text.{lenTo, rest, comma}
 use Rattle.scan.proofs.Places.{rest-step, rest-none}
 
 module _ (t : List ℕ) (k : ℕ) (g : List ℕ → ℕ) (l : List ℕ) (p : ℕ) where
-  pub store-field : (e : ℕ) → p ≤ length l → e ≡ p + lenTo 44 (drop p l) → (v : ℕ) → g (take (e - p) (drop p l)) ≡ v
-      → sets t k (map g (rest 44 l p)) ≡ sets (set t k v) (k + 1) (map g (rest 44 l (e + 1)))
+  pub store-field : (e : ℕ) → p ≤ length l → e ≡ p + lenTo comma (drop p l) → (v : ℕ) → g (take (e - p) (drop p l)) ≡ v
+      → sets t k (map g (rest comma l p)) ≡ sets (set t k v) (k + 1) (map g (rest comma l (e + 1)))
   store-field e h q v w =
-      ap (λ (fs : List (List ℕ)). sets t k (map g fs)) (rest-step 44 l p e h q)
-      ∙ sets-first t k (g (take (e - p) (drop p l))) (map g (rest 44 l (e + 1)))
-      ∙ ap (λ (x : ℕ). sets (set t k x) (k + 1) (map g (rest 44 l (e + 1)))) w
+      ap (λ (fs : List (List ℕ)). sets t k (map g fs)) (rest-step comma l p e h q)
+      ∙ sets-first t k (g (take (e - p) (drop p l))) (map g (rest comma l (e + 1)))
+      ∙ ap (λ (x : ℕ). sets (set t k x) (k + 1) (map g (rest comma l (e + 1)))) w
 
-  pub store-none : length l < p → sets t k (map g (rest 44 l p)) ≡ t
-  store-none h = ap (λ (fs : List (List ℕ)). sets t k (map g fs)) (rest-none 44 l p h)
+  pub store-none : length l < p → sets t k (map g (rest comma l p)) ≡ t
+  store-none h = ap (λ (fs : List (List ℕ)). sets t k (map g fs)) (rest-none comma l p h)

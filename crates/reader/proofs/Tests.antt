@@ -11,7 +11,7 @@ use lib.ListN.{length, getD, drop}
 use borrow.Author.Tests.{ltb-true, lt-ltb, leb-true, le-leb, eqb-true, eq-eqb, ne-eqb, not-true, not-false}
 use Rattle.wfsx.specs.Sets.{_isIn_}
 use Rattle.truth.proofs.Truth.{clash, refuted, not-intro, and-l, and-r, and-intro, or-elim, or-l, or-r}
-use Rattle.scan.specs.Text.{isText, classOf, isLetter, inName, allBytes, isName, lead, tildes, nameOf, nameWord, ruleWord, wordOf}
+use Rattle.scan.specs.Text.{isText, classOf, isLetter, inName, allBytes, isName, lead, tildes, nameOf, nameWord, ruleWord, wordOf, newline}
 use Rattle.scan.specs.declared.Class.the-variants.{Letter, Digit, Underscore, Other}
 use Rattle.scan.specs.declared.Word.{Word}
 use Rattle.scan.specs.declared.Word.the-variants.{Name, Rule as RuleWord, End, Unknown}
@@ -52,16 +52,16 @@ too-long file = (ltb-true maxBytes (length file), lt-ltb maxBytes (length file))
 
 pub strange-byte : (file : List ℕ) → (not (allBytes isText file) ≡ true) ↔ StrangeByte file
 strange-byte file =
-    fails-where isText (allBytes isText) (bytes-none isText) (bytes-first isText) file (λ b. (b ≡ 10) ⊎ ((32 ≤ b) × (b ≤ 126)) → ⊥) (λ b m. fails (isText b) (text b))
+    fails-where isText (allBytes isText) (bytes-none isText) (bytes-first isText) file (λ b. (b ≡ newline) ⊎ ((32 ≤ b) × (b ≤ 126)) → ⊥) (λ b m. fails (isText b) (text b))
   where
-    text : (b : ℕ) → (isText b ≡ true) ↔ ((b ≡ 10) ⊎ ((32 ≤ b) × (b ≤ 126)))
-    text b = or-is (eqb b 10) (leb 32 b && leb b 126) (eqb-is b 10) (and-is (leb 32 b) (leb b 126) (leb-is 32 b) (leb-is b 126))
+    text : (b : ℕ) → (isText b ≡ true) ↔ ((b ≡ newline) ⊎ ((32 ≤ b) × (b ≤ 126)))
+    text b = or-is (eqb b newline) (leb 32 b && leb b 126) (eqb-is b newline) (and-is (leb 32 b) (leb b 126) (leb-is 32 b) (leb-is b 126))
 
 pub last-open : (file : List ℕ) → (unended file ≡ true) ↔ LastLineOpen file
 last-open file =
     let last = getD file (length file - 1) 0 in
-    or-is (eqb (length file) 0) (not (eqb last 10)) (λ e. no-entries file (eqb-true (length file) 0 e), λ e. eq-eqb (length file) 0 (ap length e))
-    (not-is (eqb last 10) (eqb-is last 10))
+    or-is (eqb (length file) 0) (not (eqb last newline)) (λ e. no-entries file (eqb-true (length file) 0 e), λ e. eq-eqb (length file) 0 (ap length e))
+    (not-is (eqb last newline) (eqb-is last newline))
 
 -- ---- names and literals
 

@@ -9,7 +9,7 @@ use Prim.Native.Nat.{ℕ, _+_, _-_, _≤_, _<_}
 use lib.ListN.{length, getD, drop}
 use Rattle.wfsx.specs.Sets.{_isIn_}
 use Rattle.wfsx.specs.Program.{Rule}
-use Rattle.scan.specs.Text.{fields, nameWord, ruleWord, endWord}
+use Rattle.scan.specs.Text.{fields, nameWord, ruleWord, endWord, newline}
 use Rattle.book.specs.Limits.{maxNames, maxRules, maxEntries, maxLength}
 use Rattle.book.specs.Book.{SameName}
 use Rattle.reader.specs.File.{Content, nothingYet, bodyLiterals, withLine, maxBytes, linesOf}
@@ -45,11 +45,11 @@ TooLong file = maxBytes < length file
 
 -- 2: a byte that is neither 10 nor 32 to 126
 abbrev pub StrangeByte : List ℕ → Type 0
-StrangeByte file = (b : ℕ) × (b isIn file) × ((b ≡ 10) ⊎ ((32 ≤ b) × (b ≤ 126)) → ⊥)
+StrangeByte file = (b : ℕ) × (b isIn file) × ((b ≡ newline) ⊎ ((32 ≤ b) × (b ≤ 126)) → ⊥)
 
 -- 3: no bytes, or the last byte isn't 10
 abbrev pub LastLineOpen : List ℕ → Type 0
-LastLineOpen file = (file ≡ []) ⊎ (getD file (length file - 1) 0 ≡ 10 → ⊥)
+LastLineOpen file = (file ≡ []) ⊎ (getD file (length file - 1) 0 ≡ newline → ⊥)
 
 -- ---- numbers 4 to 9, of the fields of a line, where the lines before it have said d
 

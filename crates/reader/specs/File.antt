@@ -6,7 +6,7 @@ use Prim.Native.Nat.{ℕ, _+_, _-_, _*_}
 use lib.Dec.{eqb, leb, ltb}
 use lib.ListN.{length, getD, take}
 use Rattle.wfsx.specs.Program.{Entry, positive, default, Rule}
-use Rattle.scan.specs.Text.{isText, allBytes, split, fields, isName, wordOf, tildes, minuses, nameOf}
+use Rattle.scan.specs.Text.{isText, allBytes, split, fields, isName, wordOf, tildes, minuses, nameOf, newline}
 use Rattle.scan.specs.declared.Word.{Word}
 use Rattle.scan.specs.declared.Word.the-variants.{Name, Rule as RuleWord, End, Unknown}
 use Rattle.book.specs.Limits.{maxNames, maxRules, maxEntries}
@@ -159,11 +159,11 @@ maxBytes = 60000
 
 -- 3: no bytes, or the last byte isn't 10
 abbrev pub unended : List ℕ → Bool
-unended file = eqb (length file) 0 || not (eqb (getD file (length file - 1) 0) 10)
+unended file = eqb (length file) 0 || not (eqb (getD file (length file - 1) 0) newline)
 
 -- each line ends in byte 10, so the last one's is left out
 abbrev pub linesOf : List ℕ → List (List ℕ)
-linesOf file = split 10 (take (length file - 1) file)
+linesOf file = split newline (take (length file - 1) file)
 
 -- numbers 1 to 3 look at the whole file in this order, with line 0
 unfoldable pub readFile : List ℕ → Outcome

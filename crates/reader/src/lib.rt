@@ -6,7 +6,7 @@ ghost use Prim.Native.Nat.{ℕ, _+_, _≤_};
 ghost use lib.ListN.{length};
 ghost use lib.Seq.{sets};
 ghost use Rattle.wfsx.specs.Program.{Rule};
-ghost use Rattle.scan.specs.Text.{split, rest, fields};
+ghost use Rattle.scan.specs.Text.{split, rest, fields, comma, newline};
 ghost use Rattle.scan.specs.declared.Word.the-variants.{Name, Rule as RuleWord, End};
 ghost use Rattle.book.specs.Limits.{maxNames, maxRules, maxEntries};
 ghost use Rattle.book.specs.Book.{clamp, namesIn, codeOf};
@@ -74,7 +74,7 @@ fn name_line(count: usize, text: &mut [u8], lengths: &mut [u8], name: &[u8]) -> 
 // 5 where a field from place `from` on is malformed.
 fn form_fault(line: &[u8], from: usize) -> u8
     requires { ⌜ from ≤ length (now line) + 1 ⌝ }
-    ensures { λ r. ⌜ r ≡ formFault (rest 44 (now (line .entry)) from) ⌝ }
+    ensures { λ r. ⌜ r ≡ formFault (rest comma (now (line .entry)) from) ⌝ }
 {
     let mut p = from;
     while p <= line.len() {
@@ -94,7 +94,7 @@ fn form_fault(line: &[u8], from: usize) -> u8
 // 5 where the head at `from` has a `~`, or is malformed, or a field behind it is malformed.
 fn rule_form(line: &[u8], from: usize) -> u8
     requires { ⌜ from ≤ length (now line) ⌝ }
-    ensures { λ r. ⌜ r ≡ ruleForm (rest 44 (now (line .entry)) from) ⌝ }
+    ensures { λ r. ⌜ r ≡ ruleForm (rest comma (now (line .entry)) from) ⌝ }
 {
     let e = scan::end_of(line, from, b',');
     let Form::Literal { tildes, minuses: _ } = scan::form_of(&line[from..e]) else {
@@ -137,7 +137,7 @@ fn body_entries(
     from: usize,
 ) -> u8
     requires { ⌜ (from ≤ length (now line) + 1) × (at ≤ maxEntries) ⌝ }
-    ensures { λ r. ⌜ (r ≡ knownFault (namesIn (now (text .entry)) (now (lengths .entry)) (clamp maxNames count)) (rest 44 (now (line .entry)) from)) × (r ≡ 0 → now (entries .exit) ≡ sets (now (entries .entry)) at (map (λ f. codeOf (entryFrom (namesIn (now (text .entry)) (now (lengths .entry)) (clamp maxNames count)) f)) (rest 44 (now (line .entry)) from))) ⌝ }
+    ensures { λ r. ⌜ (r ≡ knownFault (namesIn (now (text .entry)) (now (lengths .entry)) (clamp maxNames count)) (rest comma (now (line .entry)) from)) × (r ≡ 0 → now (entries .exit) ≡ sets (now (entries .entry)) at (map (λ f. codeOf (entryFrom (namesIn (now (text .entry)) (now (lengths .entry)) (clamp maxNames count)) f)) (rest comma (now (line .entry)) from))) ⌝ }
 {
     let mut k = at;
     let mut p = from;
@@ -165,8 +165,8 @@ fn rule_line(
     from: usize,
     n: usize,
 ) -> u8
-    requires { ⌜ (t .used ≤ maxEntries) × (n ≤ 16) × (from ≤ length (now line)) × (n + 1 ≡ length (rest 44 (now line) from)) ⌝ }
-    ensures { λ r. ⌜ ((names : List (List ℕ)) (rules : List Rule) → NameTable names (t .names) (now (text .entry)) (now (lengths .entry)) → RuleTable rules (t .rules) (t .used) (now (heads .entry)) (now (starts .entry)) (now (entries .entry)) → RuleRead names rules (t .rules) (t .used) n (rest 44 (now (line .entry)) from) r (now (heads .exit)) (now (starts .exit)) (now (entries .exit))) ⌝ }
+    requires { ⌜ (t .used ≤ maxEntries) × (n ≤ 16) × (from ≤ length (now line)) × (n + 1 ≡ length (rest comma (now line) from)) ⌝ }
+    ensures { λ r. ⌜ ((names : List (List ℕ)) (rules : List Rule) → NameTable names (t .names) (now (text .entry)) (now (lengths .entry)) → RuleTable rules (t .rules) (t .used) (now (heads .entry)) (now (starts .entry)) (now (entries .entry)) → RuleRead names rules (t .rules) (t .used) n (rest comma (now (line .entry)) from) r (now (heads .exit)) (now (starts .exit)) (now (entries .exit))) ⌝ }
 {
     if rule_form(line, from) != 0 {
         return 5;
@@ -209,8 +209,8 @@ fn with_name(
     from: usize,
     n: usize,
 ) -> LineAnswer
-    requires { ⌜ (t .names ≤ maxNames) × (from ≤ length (now line) + 1) × (n ≡ length (rest 44 (now line) from) + 1) ⌝ }
-    ensures { λ r. ⌜ ((d : Content) (heads starts entries : List ℕ) → Holds d t (now (text .entry)) (now (lengths .entry)) heads starts entries → d .ended ≡ false → WordRead d Name (rest 44 (now (line .entry)) from) r (now (text .exit)) (now (lengths .exit)) heads starts entries) ⌝ }
+    requires { ⌜ (t .names ≤ maxNames) × (from ≤ length (now line) + 1) × (n ≡ length (rest comma (now line) from) + 1) ⌝ }
+    ensures { λ r. ⌜ ((d : Content) (heads starts entries : List ℕ) → Holds d t (now (text .entry)) (now (lengths .entry)) heads starts entries → d .ended ≡ false → WordRead d Name (rest comma (now (line .entry)) from) r (now (text .exit)) (now (lengths .exit)) heads starts entries) ⌝ }
 {
     if n != 2 {
         return LineAnswer::Fault(4);
@@ -240,8 +240,8 @@ fn with_rule(
     from: usize,
     n: usize,
 ) -> LineAnswer
-    requires { ⌜ (t .rules ≤ maxRules) × (t .used ≤ maxEntries) × (from ≤ length (now line) + 1) × (n ≡ length (rest 44 (now line) from) + 1) ⌝ }
-    ensures { λ r. ⌜ ((d : Content) → Holds d t (now (text .entry)) (now (lengths .entry)) (now (heads .entry)) (now (starts .entry)) (now (entries .entry)) → d .ended ≡ false → WordRead d RuleWord (rest 44 (now (line .entry)) from) r (now (text .entry)) (now (lengths .entry)) (now (heads .exit)) (now (starts .exit)) (now (entries .exit))) ⌝ }
+    requires { ⌜ (t .rules ≤ maxRules) × (t .used ≤ maxEntries) × (from ≤ length (now line) + 1) × (n ≡ length (rest comma (now line) from) + 1) ⌝ }
+    ensures { λ r. ⌜ ((d : Content) → Holds d t (now (text .entry)) (now (lengths .entry)) (now (heads .entry)) (now (starts .entry)) (now (entries .entry)) → d .ended ≡ false → WordRead d RuleWord (rest comma (now (line .entry)) from) r (now (text .entry)) (now (lengths .entry)) (now (heads .exit)) (now (starts .exit)) (now (entries .exit))) ⌝ }
 {
     if n < 2 {
         return LineAnswer::Fault(4);
@@ -350,7 +350,7 @@ fn accepted_with(
 
 // The lines of b, which is the file without its last byte.
 fn read_lines(b: &[u8]) -> Loaded
-    ensures { λ r. ⌜ r ≡ loadedOf (readLines nothingYet 1 (split 10 (now (b .entry)))) ⌝ }
+    ensures { λ r. ⌜ r ≡ loadedOf (readLines nothingYet 1 (split newline (now (b .entry)))) ⌝ }
 {
     let mut text = [0u8; book::MAX_TEXT];
     let mut lengths = [0u8; book::MAX_NAMES];
@@ -361,7 +361,7 @@ fn read_lines(b: &[u8]) -> Loaded
     let mut at = 0;
     let mut number = 1;
     while at <= b.len() {
-        let e = scan::end_of(b, at, 10);
+        let e = scan::end_of(b, at, b'\n');
         match judge(
             t,
             &mut text,
@@ -400,7 +400,7 @@ pub fn read(file: &[u8]) -> Loaded
     if n == 0 {
         return refusal(3, 0);
     }
-    if file[n - 1] != 10 {
+    if file[n - 1] != b'\n' {
         return refusal(3, 0);
     }
     read_lines(&file[0..n - 1])

@@ -77,7 +77,7 @@ fn is_text(b: u8) -> bool
     ensures { λ r. ⌜ r ≡ isText b ⌝ }
 {
     match b {
-        10 => true,
+        b'\n' => true,
         32..=126 => true,
         _ => false,
     }

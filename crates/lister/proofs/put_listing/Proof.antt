@@ -7,6 +7,7 @@ use lib.ListN.{getD}
 use Rattle.book.specs.Book.{namesIn}
 use Rattle.book.specs.Limits.{maxNames}
 use Rattle.book.proofs.Counts.{clamp-most}
+use Rattle.scan.specs.Text.{comma, newline}
 use Rattle.lister.specs.Listing.{modelWord, contradictionWord, field, nameLines, verdictsBy, listingIn}
 use Rattle.lister.specs.Steps.{Room, countsTo}
 use Rattle.lister.proofs.Stored.{put-then, room-first, room-rest}
@@ -28,24 +29,24 @@ names c = namesIn (c .before .before .before .before .args .t2 .text) (c .before
 abbrev lines : tie.After-count → List ℕ
 lines c = nameLines (verdictsBy (c .before .before .before .before .args .model)) 0 (names c)
 
-clear : (c : tie.After-enum-told) → whole (c .before .before .before .before .before .before) ≡ field modelWord 44 ++ (header (c .before .before) 10 ++ lines (c .before .before))
+clear : (c : tie.After-enum-told) → whole (c .before .before .before .before .before .before) ≡ field modelWord comma ++ (header (c .before .before) newline ++ lines (c .before .before))
 clear c =
     let a = c .before .before .before .before .before .before .args in
     clear-parts (a .t2) (a .facts) (a .model) (c .before .before .before .before .name-count .ensures) (c .before .before .before .rule-count .ensures) (c .before .before .count .ensures) (c .enum-told .given .1)
 
-clear-room : (c : tie.After-enum-told) → Room (field modelWord 44 ++ (header (c .before .before) 10 ++ lines (c .before .before))) 0
+clear-room : (c : tie.After-enum-told) → Room (field modelWord comma ++ (header (c .before .before) newline ++ lines (c .before .before))) 0
 clear-room c = let a = c .before .before .before .before .before .before .args in rw (clear c) at (listing-room (a .t2) (a .facts) (a .model))
 
 -- the parts of the listing with a clash
 abbrev name : tie.After-clash → List ℕ
-name c = field (getD (names (c .before .before)) (c .clash .given .0 .0) []) 10
+name c = field (getD (names (c .before .before)) (c .clash .given .0 .0) []) newline
 
-clash : (c : tie.After-clash) → whole (c .before .before .before .before .before .before) ≡ field contradictionWord 44 ++ (header (c .before .before) 44 ++ name c)
+clash : (c : tie.After-clash) → whole (c .before .before .before .before .before .before) ≡ field contradictionWord comma ++ (header (c .before .before) comma ++ name c)
 clash c =
     let a = c .before .before .before .before .before .before .args in
     clash-parts (a .t2) (a .facts) (a .model) (c .before .before .before .before .name-count .ensures) (c .before .before .before .rule-count .ensures) (c .before .before .count .ensures) (c .clash .given .0 .0) (c .clash .given .1)
 
-clash-room : (c : tie.After-clash) → Room (field contradictionWord 44 ++ (header (c .before .before) 44 ++ name c)) 0
+clash-room : (c : tie.After-clash) → Room (field contradictionWord comma ++ (header (c .before .before) comma ++ name c)) 0
 clash-room c = let a = c .before .before .before .before .before .before .args in rw (clash c) at (listing-room (a .t2) (a .facts) (a .model))
 
 name-count-requires : tie.Need-name-count-requires
@@ -68,17 +69,17 @@ put-word-requires c κs = search needs
 
 put-counts-requires : tie.Need-put-counts-requires
 put-counts-requires c κs =
-    let head = header (c .before .before .before .before .before .before .before .before) 10 in
+    let head = header (c .before .before .before .before .before .before .before .before) newline in
     let rest = lines (c .before .before .before .before .before .before .before .before) in
-    room-first head rest (room-rest (field modelWord 44) (head ++ rest) (clear-room (c .before .before .before .before .before .before)) (c .before .before .before .put-word .ensures))
+    room-first head rest (room-rest (field modelWord comma) (head ++ rest) (clear-room (c .before .before .before .before .before .before)) (c .before .before .before .put-word .ensures))
 
 put-name-lines-requires : tie.Need-put-name-lines-requires
 put-name-lines-requires c κs =
-    let head = header (c .before .before .before .before .before .before .before .before .before .before .before .before .before .before .before .before .before) 10 in
+    let head = header (c .before .before .before .before .before .before .before .before .before .before .before .before .before .before .before .before .before) newline in
     let rest = lines (c .before .before .before .before .before .before .before .before .before .before .before .before .before .before .before .before .before) in
     let most = clamp-most maxNames (c .before .before .before .before .before .before .before .before .before .before .before .before .before .before .before .before .before .before .before .before .before .args .t2 .names) in
     let count = c .before .before .before .before .before .before .before .before .before .before .before .before .before .before .before .before .before .before .before .name-count .ensures in
-    (room-rest head rest (room-rest (field modelWord 44) (head ++ rest) (clear-room (c .before .before .before .before .before .before .before .before .before .before .before .before .before .before .before)) (c .before .before .before .before .before .before .before .before .before .before .before .before .put-word .ensures)) (c .before .before .before .before .before .before .before .before .put-counts .ensures), omega arith)
+    (room-rest head rest (room-rest (field modelWord comma) (head ++ rest) (clear-room (c .before .before .before .before .before .before .before .before .before .before .before .before .before .before .before)) (c .before .before .before .before .before .before .before .before .before .before .before .before .put-word .ensures)) (c .before .before .before .before .before .before .before .before .put-counts .ensures), omega arith)
 
 same-length : tie.Need-same-length
 same-length c = search needs
@@ -97,15 +98,15 @@ put-word-requires-2 c κs = search needs
 
 put-counts-requires-2 : tie.Need-put-counts-requires-2
 put-counts-requires-2 c κs =
-    let head = header (c .before .before .before .before .before .before .before .before .before) 44 in
+    let head = header (c .before .before .before .before .before .before .before .before .before) comma in
     let rest = name (c .before .before .before .before .before .before .before) in
-    room-first head rest (room-rest (field contradictionWord 44) (head ++ rest) (clash-room (c .before .before .before .before .before .before .before)) (c .before .before .before .put-word2 .ensures))
+    room-first head rest (room-rest (field contradictionWord comma) (head ++ rest) (clash-room (c .before .before .before .before .before .before .before)) (c .before .before .before .put-word2 .ensures))
 
 put-name-end-requires : tie.Need-put-name-end-requires
 put-name-end-requires c κs =
-    let head = header (c .before .before .before .before .before .before .before .before .before .before .before .before .before .before .before .before .before .before) 44 in
+    let head = header (c .before .before .before .before .before .before .before .before .before .before .before .before .before .before .before .before .before .before) comma in
     let rest = name (c .before .before .before .before .before .before .before .before .before .before .before .before .before .before .before .before) in
-    room-rest head rest (room-rest (field contradictionWord 44) (head ++ rest) (clash-room (c .before .before .before .before .before .before .before .before .before .before .before .before .before .before .before .before)) (c .before .before .before .before .before .before .before .before .before .before .before .before .put-word2 .ensures)) (c .before .before .before .before .before .before .before .before .put-counts2 .ensures)
+    room-rest head rest (room-rest (field contradictionWord comma) (head ++ rest) (clash-room (c .before .before .before .before .before .before .before .before .before .before .before .before .before .before .before .before)) (c .before .before .before .before .before .before .before .before .before .before .before .before .put-word2 .ensures)) (c .before .before .before .before .before .before .before .before .put-counts2 .ensures)
 
 same-length-2 : tie.Need-same-length-2
 same-length-2 c = search needs

@@ -6,7 +6,7 @@ use mathlib.Core.List.{List, map}
 use Prim.Native.Nat.{ℕ, _≤_, _+_, _-_, _*_}
 use lib.ListN.{length, length-set}
 use lib.Seq.{sets}
-use Rattle.scan.specs.Text.{rest, nameOf}
+use Rattle.scan.specs.Text.{rest, nameOf, comma}
 use Rattle.book.specs.Limits.{maxNames}
 use Rattle.book.specs.Book.{clamp, namesIn, codeOf}
 use Rattle.reader.specs.File.{allFields, declared, _when_else_, entryFrom}
@@ -29,8 +29,8 @@ code names f = codeOf (entryFrom names f)
 abbrev Inv-loop : tie.InvT-loop
 Inv-loop text lengths count entries₀ at line from k₀ p₀ entries k p =
     (p ≤ length line + 1) × (k ≤ at + p) × (length entries ≡ length entries₀)
-    × (allFields (known (names-in text lengths count)) (rest 44 line p) ≡ allFields (known (names-in text lengths count)) (rest 44 line from))
-    × (sets entries k (map (code (names-in text lengths count)) (rest 44 line p)) ≡ sets entries₀ at (map (code (names-in text lengths count)) (rest 44 line from)))
+    × (allFields (known (names-in text lengths count)) (rest comma line p) ≡ allFields (known (names-in text lengths count)) (rest comma line from))
+    × (sets entries k (map (code (names-in text lengths count)) (rest comma line p)) ≡ sets entries₀ at (map (code (names-in text lengths count)) (rest comma line from)))
 
 abbrev μ-loop : tie.MeasureT-loop
 μ-loop text lengths count entries₀ at line from k₀ p₀ entries k p = length line + 1 - p
@@ -119,7 +119,7 @@ loop-again c =
       omega (arith, d .end-of .ensures .1),
       ap length stored ∙ simp length-set (was .inv .2),
       sym (fields-go (known names) (a .line .now) (was .p) (d .end-of .result) (d .before .loop-test .taken) (d .end-of .ensures .0) (is-declared names _ l t entry)) ∙ was .inv .3,
-      ap (λ (x : List ℕ). sets x (was .k + 1) (map (code names) (rest 44 (a .line .now) (d .end-of .result + 1)))) stored
+      ap (λ (x : List ℕ). sets x (was .k + 1) (map (code names) (rest comma (a .line .now) (d .end-of .result + 1)))) stored
           ∙ sym (store-field (was .entries) (was .k) (code names) (a .line .now) (was .p) (d .end-of .result) (d .before .loop-test .taken) (d .end-of .ensures .0) (2 * l + t) (code-is names _ l t entry))
           ∙ was .inv .4,
     )

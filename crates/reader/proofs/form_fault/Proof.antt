@@ -4,7 +4,7 @@ use mathlib.Core.Path.{_≡_, sym, ap, _∙_}
 use mathlib.Core.Bool.{Bool, not}
 use Prim.Native.Nat.{_≤_, _+_, _-_}
 use lib.ListN.{length}
-use Rattle.scan.specs.Text.{rest}
+use Rattle.scan.specs.Text.{rest, comma}
 use Rattle.scan.proofs.Forms.{malformed-form, literal-form}
 use Rattle.reader.specs.File.{allFields, isLiteral, _when_else_}
 use Rattle.reader.proofs.Fields.{fields-go, fields-stop, fields-end}
@@ -13,7 +13,7 @@ use Rattle.reader.proofs.form_fault.Statement.{statement}
 use Rattle.reader.proofs.form_fault.Tie as tie
 
 abbrev Inv-loop : tie.InvT-loop
-Inv-loop line from p₀ p = (p ≤ length line + 1) × (allFields isLiteral (rest 44 line p) ≡ allFields isLiteral (rest 44 line from))
+Inv-loop line from p₀ p = (p ≤ length line + 1) × (allFields isLiteral (rest comma line p) ≡ allFields isLiteral (rest comma line from))
 
 abbrev μ-loop : tie.MeasureT-loop
 μ-loop line from p₀ p = length line + 1 - p

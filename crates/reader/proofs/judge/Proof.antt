@@ -5,7 +5,7 @@ use mathlib.Core.Bool.{false}
 use mathlib.Core.List.{List, _∷_}
 use Prim.Native.Nat.{ℕ, _+_, _-_, _≤_, zero-le}
 use lib.ListN.{length, take, drop}
-use Rattle.scan.specs.Text.{rest, fields, wordOf}
+use Rattle.scan.specs.Text.{rest, fields, wordOf, comma}
 use Rattle.scan.specs.declared.Word.{Word}
 use Rattle.scan.specs.declared.Word.the-variants.{Name, Rule as RuleWord, End, Unknown}
 use Rattle.scan.proofs.Places.{split-first}
@@ -21,7 +21,7 @@ abbrev first-of : tie.After-end-of → List ℕ
 first-of c = take (c .end-of .result - 0) (drop 0 (c .before .before .before .before .before .before .before .before .args .line .now))
 
 abbrev others : tie.After-end-of → List (List ℕ)
-others c = rest 44 (c .before .before .before .before .before .before .before .before .args .line .now) (c .end-of .result + 1)
+others c = rest comma (c .before .before .before .before .before .before .before .before .args .line .now) (c .end-of .result + 1)
 
 parted : (c : tie.After-end-of) → fields (c .before .before .before .before .before .before .before .before .args .line .now) ≡ first-of c ∷ others c
 parted c = first-field (c .before .before .before .before .before .before .before .before .args .line .now) (c .end-of .result) (c .end-of .ensures .0)
@@ -42,7 +42,7 @@ by-word c w e d = by-first d w (parted (c .before .before .before)) (sym (c .wor
 
 returns : tie.Need-returns
 returns c =
-    λ d h. (by-first d (wordOf _) (split-first 44 (c .before .before .before .before .before .before .before .args .line .now)) refl .fault-is ∙ fault-ended d _ _ (sym (h .ended-is) ∙ c .if1 .taken), λ e. omega arith)
+    λ d h. (by-first d (wordOf _) (split-first comma (c .before .before .before .before .before .before .before .args .line .now)) refl .fault-is ∙ fault-ended d _ _ (sym (h .ended-is) ∙ c .if1 .taken), λ e. omega arith)
 
 end-of-requires : tie.Need-end-of-requires
 end-of-requires c κs = search needs

@@ -5,7 +5,7 @@ use Prim.Native.Nat.{ℕ, _-_}
 use native.Mathlib.Nat.{sub-zero}
 use lib.ListN.{length, take}
 use borrow.Author.Tests.{not-true, not-false}
-use Rattle.scan.specs.Text.{split}
+use Rattle.scan.specs.Text.{split, newline}
 use Rattle.reader.specs.File.{nothingYet, readLines}
 use Rattle.reader.specs.Loading.{loadedOf}
 use Rattle.reader.proofs.Judgement.{file-long, file-bytes, file-unended, file-lines, no-bytes, last-other, last-ends}
@@ -72,7 +72,7 @@ returns-5 : tie.Need-returns-5
 returns-5 c =
     let s = c .before .before .before .before .before .before .before .before .before .args .file .now in
     c .read-lines .ensures
-    ∙ ap loadedOf (ap (λ (n : ℕ). readLines nothingYet 1 (split 10 (take n s))) (sub-zero (length s - 1))
+    ∙ ap loadedOf (ap (λ (n : ℕ). readLines nothingYet 1 (split newline (take n s))) (sub-zero (length s - 1))
     ∙ sym (file-lines s (c .before .before .before .before .before .before .before .if1 .left) (sym (c .before .before .before .before .before .before .all-text .ensures) ∙ not-false (c .before .before .before .before .before .before .all-text .result) (c .before .before .before .before .before .if2 .left)) (last-ends s (c .before .before .before .before .if3 .left) (c .before .before .if4 .left))))
 
 pub read-spec : {M : Type 1} → statement M

@@ -6,7 +6,7 @@ use Prim.Native.Nat.{ℕ, _+_, _-_, _≤_}
 use lib.ListN.{length, take, drop}
 use lib.Dec.{eqb}
 use borrow.Author.Tests.{eq-eqb}
-use Rattle.scan.specs.Text.{rest, tildes, formOf}
+use Rattle.scan.specs.Text.{rest, tildes, formOf, comma}
 use Rattle.scan.specs.declared.Form.the-variants.{Literal}
 use Rattle.scan.proofs.Places.{rest-step}
 use Rattle.scan.proofs.Forms.{lead-most, malformed-form, literal-form, form-tildes}
@@ -21,10 +21,10 @@ abbrev head-field : tie.After-end-of → List ℕ
 head-field c = take (c .end-of .result - c .before .before .args .from) (drop (c .before .before .args .from) (c .before .before .args .line .now))
 
 abbrev others : tie.After-end-of → List (List ℕ)
-others c = rest 44 (c .before .before .args .line .now) (c .end-of .result + 1)
+others c = rest comma (c .before .before .args .line .now) (c .end-of .result + 1)
 
-joined : (c : tie.After-end-of) → ruleForm (head-field c ∷ others c) ≡ ruleForm (rest 44 (c .before .before .args .line .now) (c .before .before .args .from))
-joined c = ap ruleForm (sym (rest-step 44 (c .before .before .args .line .now) (c .before .before .args .from) (c .end-of .result) (c .before .before .pre) (c .end-of .ensures .0)))
+joined : (c : tie.After-end-of) → ruleForm (head-field c ∷ others c) ≡ ruleForm (rest comma (c .before .before .args .line .now) (c .before .before .args .from))
+joined c = ap ruleForm (sym (rest-step comma (c .before .before .args .line .now) (c .before .before .args .from) (c .end-of .result) (c .before .before .pre) (c .end-of .ensures .0)))
 
 inside : (c : tie.After-end-of) → c .end-of .result ≤ length (c .before .before .args .line .now)
 inside c = c .end-of .ensures .2 (c .before .before .pre)

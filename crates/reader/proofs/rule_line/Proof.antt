@@ -7,7 +7,7 @@ use Prim.Native.Nat.{ℕ, _+_, _-_, _≤_}
 use lib.ListN.{length, take, drop, set, length-map}
 use lib.Seq.{sets}
 use borrow.Author.Tests.{not-true, not-false}
-use Rattle.scan.specs.Text.{rest, nameOf}
+use Rattle.scan.specs.Text.{rest, nameOf, comma}
 use Rattle.scan.proofs.Places.{rest-step}
 use Rattle.book.specs.Limits.{maxNames}
 use Rattle.book.specs.Book.{clamp, namesIn, codeOf}
@@ -24,17 +24,17 @@ names-in s = namesIn (s .args .text .now) (s .args .lengths .now) (clamp maxName
 
 -- the rule's fields
 abbrev fields-of : tie.Start → List (List ℕ)
-fields-of s = rest 44 (s .args .line .now) (s .args .from)
+fields-of s = rest comma (s .args .line .now) (s .args .from)
 
 -- the head's field, and the fields behind it
 abbrev head-field : tie.After-end-of → List ℕ
 head-field c = take (c .end-of .result - c .before .before .before .before .before .before .before .before .before .args .from) (drop (c .before .before .before .before .before .before .before .before .before .args .from) (c .before .before .before .before .before .before .before .before .before .args .line .now))
 
 abbrev others : tie.After-end-of → List (List ℕ)
-others c = rest 44 (c .before .before .before .before .before .before .before .before .before .args .line .now) (c .end-of .result + 1)
+others c = rest comma (c .before .before .before .before .before .before .before .before .before .args .line .now) (c .end-of .result + 1)
 
 parted : (c : tie.After-end-of) → fields-of (c .before .before .before .before .before .before .before .before .before) ≡ head-field c ∷ others c
-parted c = rest-step 44 (c .before .before .before .before .before .before .before .before .before .args .line .now) (c .before .before .before .before .before .before .before .before .before .args .from) (c .end-of .result) (c .before .before .before .before .before .before .before .before .before .pre .2) (c .end-of .ensures .0)
+parted c = rest-step comma (c .before .before .before .before .before .before .before .before .before .args .line .now) (c .before .before .before .before .before .before .before .before .before .args .from) (c .end-of .result) (c .before .before .before .before .before .before .before .before .before .pre .2) (c .end-of .ensures .0)
 
 inside : (c : tie.After-end-of) → c .end-of .result ≤ length (c .before .before .before .before .before .before .before .before .before .args .line .now)
 inside c = c .end-of .ensures .2 (c .before .before .before .before .before .before .before .before .before .pre .2)

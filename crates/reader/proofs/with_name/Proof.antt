@@ -4,7 +4,7 @@ use mathlib.Core.Path.{_≡_, sym, ap, _∙_}
 use mathlib.Core.List.{List, [], _∷_}
 use Prim.Native.Nat.{ℕ, _-_, _≤_}
 use lib.ListN.{length, take, drop}
-use Rattle.scan.specs.Text.{rest}
+use Rattle.scan.specs.Text.{rest, comma}
 use Rattle.scan.specs.declared.Word.the-variants.{Name}
 use Rattle.scan.proofs.Places.{rest-within}
 use Rattle.reader.specs.File.{faultOf}
@@ -15,7 +15,7 @@ use Rattle.reader.proofs.with_name.Tie as tie
 
 -- the fields behind the first
 abbrev others : tie.Start → List (List ℕ)
-others c = rest 44 (c .args .line .now) (c .args .from)
+others c = rest comma (c .args .line .now) (c .args .from)
 
 one-more : (c : tie.Else1) → length (others (c .before .before .before .before)) ≡ 1
 one-more c = omega (arith, c .before .before .before .before .pre .2, c .if1 .left)
@@ -28,7 +28,7 @@ only-name : (c : tie.After-end-of) → others (c .before .before .before .before
 only-name c = only-field (c .before .before .before .before .before .args .line .now) (c .before .before .before .before .before .args .from) (c .end-of .result) (one-more (c .before)) (c .end-of .ensures .0)
 
 inside : (c : tie.Else1) → c .before .before .before .before .args .from ≤ length (c .before .before .before .before .args .line .now)
-inside c = rest-within 44 (c .before .before .before .before .args .line .now) (c .before .before .before .before .args .from) (omega (arith, one-more c))
+inside c = rest-within comma (c .before .before .before .before .args .line .now) (c .before .before .before .before .args .from) (omega (arith, one-more c))
 
 returns : tie.Need-returns
 returns c =

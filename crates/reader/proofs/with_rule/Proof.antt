@@ -4,7 +4,7 @@ use mathlib.Core.Path.{sym, _∙_}
 use mathlib.Core.List.{List}
 use Prim.Native.Nat.{ℕ, _-_, _≤_}
 use lib.ListN.{length}
-use Rattle.scan.specs.Text.{rest}
+use Rattle.scan.specs.Text.{rest, comma}
 use Rattle.scan.specs.declared.Word.the-variants.{Rule as RuleWord}
 use Rattle.scan.proofs.Places.{rest-within}
 use Rattle.reader.proofs.Judgement.{fault-fields, fault-rule, wrong-few, wrong-many, after-rule}
@@ -14,7 +14,7 @@ use Rattle.reader.proofs.with_rule.Tie as tie
 
 -- the fields behind the first
 abbrev others : tie.Start → List (List ℕ)
-others c = rest 44 (c .args .line .now) (c .args .from)
+others c = rest comma (c .args .line .now) (c .args .from)
 
 some-more : (c : tie.Else1) → 1 ≤ length (others (c .before .before .before .before .before .before .before))
 some-more c = omega (arith, c .before .before .before .before .before .before .before .pre .3, c .if1 .left)
@@ -36,7 +36,7 @@ rule-line-requires : tie.Need-rule-line-requires
 rule-line-requires c κs = (
   c .before .before .before .before .before .before .before .before .before .before .before .pre .1,
   omega (arith, c .before .before .before .if2 .left),
-  rest-within 44 (c .before .before .before .before .before .before .before .before .before .before .before .args .line .now) (c .before .before .before .before .before .before .before .before .before .before .before .args .from) (some-more (c .before .before .before .before)),
+  rest-within comma (c .before .before .before .before .before .before .before .before .before .before .before .args .line .now) (c .before .before .before .before .before .before .before .before .before .before .before .args .from) (some-more (c .before .before .before .before)),
   omega (arith, c .before .before .before .before .before .before .before .before .before .before .before .pre .3, some-more (c .before .before .before .before)),
 )
 
