@@ -9,8 +9,8 @@ use native.Mathlib.Numerals.{add-one}
 use lib.ListN.{length, take, drop, getD, length-drop, drop-of-length-le}
 use lib.Seq.{take-all, take-nil}
 use Rattle.scan.proofs.Bytes.{same-refl, same-equal}
+use Rattle.scan.specs.Text.{maxLength}
 use Rattle.book.specs.Book.{rows, clamp, nameAt, SameName, sameName, findFrom}
-use Rattle.book.specs.Limits.{maxLength}
 use Rattle.book.specs.declared.Found.the-variants.{Nothing, At}
 use Rattle.book.proofs.Rows.{rows-step, rows-end}
 
@@ -27,8 +27,8 @@ module _ (s : List ℕ) (from n : ℕ) where
   part-inside = let e : from + n - from ≡ n = omega arith in rw e
 
 -- no name begins past the text
-pub name-past : (text lengths : List ℕ) (k : ℕ) → length text / 16 < k → [] ≡ nameAt text lengths k
-name-past text lengths k h = part-past text (16 * k) (clamp maxLength (getD lengths k 0)) (omega arith)
+pub name-past : (text lengths : List ℕ) (k : ℕ) → length text / maxLength < k → [] ≡ nameAt text lengths k
+name-past text lengths k h = part-past text (maxLength * k) (clamp maxLength (getD lengths k 0)) (omega arith)
 
 -- ---- a name among names
 

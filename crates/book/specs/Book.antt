@@ -9,8 +9,8 @@ use lib.ListN.{length, getD, take, drop, replicate}
 use Rattle.wfsx.specs.Sets.{Set, members}
 use Rattle.wfsx.specs.Program.{Entry, positive, default, Rule, Program, withFacts}
 use Rattle.litset.specs.Words.{capacity}
-use Rattle.scan.specs.Text.{sameBytes}
-use Rattle.book.specs.Limits.{maxNames, maxRules, maxEntries, maxLength}
+use Rattle.scan.specs.Text.{sameBytes, maxLength}
+use Rattle.book.specs.Limits.{maxNames, maxRules, maxEntries}
 use Rattle.book.specs.declared.Book.{Book}
 use Rattle.book.specs.declared.Entry as declared
 use Rattle.book.specs.declared.Entry.the-variants.{Positive, Default}
@@ -28,7 +28,7 @@ clamp most n = min n most
 
 -- ---- names
 
--- name k: its bytes stand from 16 k on
+-- name k: its bytes stand from maxLength k on
 abbrev pub nameAt : List ℕ → List ℕ → ℕ → List ℕ
 nameAt text lengths k = take (clamp maxLength (getD lengths k 0)) (drop (maxLength * k) text)
 

@@ -14,13 +14,13 @@ use Rattle.litset.specs.declared.LitSet.{LitSet}
 use Rattle.wfsx.specs.Model.{Verdict, is-true, is-false, is-undefined}
 use Rattle.book.specs.Book.{rows, clamp, nameAt, namesIn, ruleAt, rulesOf}
 use Rattle.book.specs.declared.Book.{Book}
-use Rattle.book.specs.Limits.{maxNames, maxRules, maxLength}
+use Rattle.book.specs.Limits.{maxNames, maxRules}
 use Rattle.book.proofs.Rows.{rows-none, rows-first, rows-length, row-at, rows-step, rows-end}
 use Rattle.book.proofs.Counts.{clamp-most}
 use Rattle.fixpoint.specs.declared.Model.{Model}
 use Rattle.litset.specs.declared.Clash.{Clash}
 use Rattle.litset.specs.declared.Clash.the-variants.{None, Name}
-use Rattle.scan.specs.Text.{comma, newline}
+use Rattle.scan.specs.Text.{comma, newline, maxLength}
 use Rattle.lister.specs.Listing.{modelWord, contradictionWord, refusedWord, verdictWord, digits, field, line, nameLine, nameLines, listingBy, verdictsBy, listingIn, refusalOf}
 use Rattle.lister.specs.Steps.{Room, Put, countsTo, verdictsEnd}
 use Rattle.lister.proofs.Stored.{room-first, Left, left-step, left-none}
@@ -100,10 +100,10 @@ verdict-most is-true = omega arith
 verdict-most is-false = omega arith
 verdict-most is-undefined = omega arith
 
-name-most : (text lengths : List ℕ) (k : ℕ) → length (nameAt text lengths k) ≤ 16
+name-most : (text lengths : List ℕ) (k : ℕ) → length (nameAt text lengths k) ≤ maxLength
 name-most text lengths k =
     let n = clamp maxLength (getD lengths k 0) in
-    rw (length-take n (drop (16 * k) text)) (omega (arith, clamp-most maxLength (getD lengths k 0)))
+    rw (length-take n (drop (maxLength * k) text)) (omega (arith, clamp-most maxLength (getD lengths k 0)))
 
 counts-most : (stop names rules facts : ℕ) → names < 10 ^ 20 → rules < 10 ^ 20 → facts < 10 ^ 20 → length (countsTo stop names rules facts) ≤ 63
 counts-most stop names rules facts a b c =
@@ -117,7 +117,7 @@ counts-most stop names rules facts a b c =
       number-most facts stop c,
     )
 
-line-most : (v : ℕ → Verdict) (k : ℕ) (name : List ℕ) → k < 10 ^ 20 → length name ≤ 16 → length (nameLine v k name) ≤ 58
+line-most : (v : ℕ → Verdict) (k : ℕ) (name : List ℕ) → k < 10 ^ 20 → length name ≤ maxLength → length (nameLine v k name) ≤ maxLength + 42
 line-most v k name h l =
     let first = verdictWord (v (2 * k)) in
     let second = verdictWord (v (2 * k + 1)) in
@@ -135,7 +135,7 @@ line-most v k name h l =
       verdict-most (v (2 * k + 1)),
     )
 
-lines-most : (v : ℕ → Verdict) (f : ℕ → List ℕ) → ((k : ℕ) → length (f k) ≤ 16) → (k n : ℕ) → k + n < 10 ^ 20 → length (nameLines v k (rows f k n)) ≤ 58 * n
+lines-most : (v : ℕ → Verdict) (f : ℕ → List ℕ) → ((k : ℕ) → length (f k) ≤ maxLength) → (k n : ℕ) → k + n < 10 ^ 20 → length (nameLines v k (rows f k n)) ≤ (maxLength + 42) * n
 unfolding nameLines
 lines-most v f short k zero h = rw (rows-none f k) (omega arith)
 lines-most v f short k (suc n) h =
@@ -149,10 +149,10 @@ module _ (text lengths : List ℕ) (n k : ℕ) where
   pub name-past : n ≤ k → getD (rows (nameAt text lengths) 0 n) k [] ≡ []
   name-past h = List·getD-eq-default (rows (nameAt text lengths) 0 n) [] (rw (rows-length (nameAt text lengths) 0 n) h)
 
-  name-short : length (getD (rows (nameAt text lengths) 0 n) k []) ≤ 16
+  name-short : length (getD (rows (nameAt text lengths) 0 n) k []) ≤ maxLength
   name-short = go (decLt k n)
     where
-      go : Dec (k < n) → length (getD (rows (nameAt text lengths) 0 n) k []) ≤ 16
+      go : Dec (k < n) → length (getD (rows (nameAt text lengths) 0 n) k []) ≤ maxLength
       go (yes h) = rw (name-in h) (name-most text lengths k)
       go (no h) = rw (name-past (omega arith)) (omega arith)
 

@@ -10,8 +10,8 @@ use lib.Seq.{sets}
 use lib.Dec.{leb}
 use borrow.Author.Tests.{le-leb, lt-leb, lt-ltb, le-ltb}
 use Rattle.wfsx.specs.Program.{Rule}
-use Rattle.scan.specs.Text.{isName, nameOf}
-use Rattle.book.specs.Limits.{maxNames, maxRules, maxEntries, maxLength}
+use Rattle.scan.specs.Text.{isName, nameOf, maxLength}
+use Rattle.book.specs.Limits.{maxNames, maxRules, maxEntries}
 use Rattle.book.specs.Book.{clamp, namesIn, codeOf, bodyCodes, textTable, lengthTable, startTable}
 use Rattle.book.proofs.Tables.{allCodes, codes-none, codes-first, text-more, length-more, head-more, start-more, entry-more}
 use Rattle.book.proofs.Counts.{clamp-least}

@@ -7,12 +7,12 @@ use native.Mathlib.Omega.{arith}
 use lib.ListN.{length, getD, take, drop, replicate, length-map}
 use borrow.Author.Tests.{eq-eqb, ne-eqb, le-leb, lt-leb, lt-ltb, le-ltb}
 use Rattle.wfsx.specs.Program.{Rule}
-use Rattle.scan.specs.Text.{isText, allBytes, split, lenTo, rest, fields, isName, wordOf, comma, newline}
+use Rattle.scan.specs.Text.{isText, allBytes, split, lenTo, rest, fields, isName, wordOf, comma, newline, maxLength}
 use Rattle.scan.specs.declared.Word.{Word}
 use Rattle.scan.specs.declared.Word.the-variants.{Name, Rule as RuleWord, End, Unknown}
 use Rattle.scan.proofs.Places.{rest-here, rest-step, rest-none, rest-within}
 use Rattle.book.specs.Book.{padded, joined, startsFrom, bookOf}
-use Rattle.book.specs.Limits.{maxNames, maxRules, maxEntries, maxLength}
+use Rattle.book.specs.Limits.{maxNames, maxRules, maxEntries, maxBody}
 use Rattle.book.proofs.Tables.{padded-length, text-length, allCodes, starts-length, text-none, lengths-none, heads-none, starts-none, entries-none, book-is}
 use Rattle.reader.proofs.Faults.{no-entries}
 use Rattle.reader.specs.File.{Content, nothingYet, bodyLiterals, allFields, declared, wrongFields, malformed, declaredBefore, usesUndeclared, beyondTable, faultOf, lineFault, ruleFrom, extended, withLine, accepted, refused, readLines, maxBytes, unended, linesOf, readFile}
@@ -38,9 +38,9 @@ module _ (d : Content) where
     unfolding faultOf wrongFields malformed declaredBefore usesUndeclared beyondTable allFields
     fault-name n = rw (open-yet, and-true (isName n), and-true (not (declared (d .names) n)), Bool·not-not (declared (d .names) n)) refl
 
-    pub fault-rule : (others : List (List ℕ)) → 1 ≤ length others → length others ≤ 17 → faultOf d RuleWord others ≡ ruleFault (d .names) (d .rules) others
+    pub fault-rule : (others : List (List ℕ)) → 1 ≤ length others → length others ≤ maxBody + 1 → faultOf d RuleWord others ≡ ruleFault (d .names) (d .rules) others
     unfolding faultOf wrongFields malformed declaredBefore usesUndeclared beyondTable
-    fault-rule others some few = rw (open-yet, le-leb 1 (length others) some, le-leb (length others) 17 few) refl
+    fault-rule others some few = rw (open-yet, le-leb 1 (length others) some, le-leb (length others) (maxBody + 1) few) refl
 
     pub fault-end : faultOf d End [] ≡ 0
     unfolding faultOf wrongFields malformed declaredBefore usesUndeclared beyondTable
@@ -54,9 +54,9 @@ pub wrong-few : (others : List (List ℕ)) → length others < 1 → wrongFields
 unfolding wrongFields
 wrong-few others h = rw (lt-leb 1 (length others) h)
 
-pub wrong-many : (others : List (List ℕ)) → 1 ≤ length others → 17 < length others → wrongFields RuleWord others ≡ true
+pub wrong-many : (others : List (List ℕ)) → 1 ≤ length others → maxBody + 1 < length others → wrongFields RuleWord others ≡ true
 unfolding wrongFields
-wrong-many others s h = rw (le-leb 1 (length others) s, lt-leb (length others) 17 h)
+wrong-many others s h = rw (le-leb 1 (length others) s, lt-leb (length others) (maxBody + 1) h)
 
 pub wrong-end : (others : List (List ℕ)) → (length others ≡ 0 → ⊥) → wrongFields End others ≡ true
 unfolding wrongFields

@@ -1,6 +1,6 @@
 -- An accepted file is shorter than 60,000 bytes. A list is as long as its pieces and the stops between them, so a line with its last byte 10 has at
--- most 22 bytes where it is a name's, 23 and 19 for each body literal where it is a rule's, and 4 where it is `end`; and the tables bound how many
--- there are of each.
+-- most 6 bytes besides its name where it is a name's, 7 besides its head's name and 3 besides the name of each body literal where it is a rule's, and 4
+-- where it is `end`; and the tables bound how many there are of each.
 use mathlib.Core.Path.{_≡_, refl, ap, _∙_}
 use mathlib.Core.Bool.{Bool, true, false, not, cond, true≢false}
 use mathlib.Core.List.{List, [], _∷_}
@@ -12,7 +12,7 @@ use lib.ListN.{length, take, drop, length-append, length-map, length-drop, lengt
 use borrow.Author.Tests.{eqb-true, eqb-false, not-false}
 use Rattle.wfsx.specs.Program.{Rule}
 use Rattle.truth.proofs.Truth.{and-l, and-r}
-use Rattle.scan.specs.Text.{onto, split, fields, isName, wordOf, tildes, minuses, nameOf, nameWord, ruleWord, endWord, comma, newline}
+use Rattle.scan.specs.Text.{onto, split, fields, isName, wordOf, tildes, minuses, nameOf, nameWord, ruleWord, endWord, comma, newline, maxLength}
 use Rattle.scan.specs.declared.Word.{Word}
 use Rattle.scan.specs.declared.Word.the-variants.{Name, Rule as RuleWord, End, Unknown}
 use Rattle.scan.proofs.Places.{split-none, split-stop, split-byte, split-some}
@@ -48,17 +48,17 @@ split-total stop (x ∷ xs) = go (split-total stop xs) (eqb x stop) refl
 
 -- ---- literals
 
-literal-length : (f : List ℕ) → isLiteral f ≡ true → length f ≤ tildes f + 17
+literal-length : (f : List ℕ) → isLiteral f ≡ true → length f ≤ tildes f + (maxLength + 1)
 literal-length f e =
     let a = length-drop (minuses f) (drop (tildes f) f) in
     let b = length-drop (tildes f) f in
     let n = name-fits (nameOf f) e .1 in
     omega (arith, lead-most 45 (drop (tildes f) f))
 
-literal-short : (f : List ℕ) → isLiteral f ≡ true → length f < 19
+literal-short : (f : List ℕ) → isLiteral f ≡ true → length f < maxLength + 3
 literal-short f e = omega (arith, literal-length f e, lead-most 126 f)
 
-head-length : (f : List ℕ) → isLiteral f ≡ true → hasTilde f ≡ false → length f ≤ 17
+head-length : (f : List ℕ) → isLiteral f ≡ true → hasTilde f ≡ false → length f ≤ maxLength + 1
 head-length f e h = let z : tildes f ≡ 0 = none (tildes f) (lead-most 126 f) (eqb-false (tildes f) 1 h) in omega (arith, literal-length f e)
   where
     none : (n : ℕ) → n ≤ 1 → (n ≡ 1 → ⊥) → n ≡ 0
@@ -77,14 +77,14 @@ fields-total f k h (x ∷ xs) e =
 
 -- so many bytes at most have said d
 unfoldable pub weight : Content → ℕ
-weight d = 22 * length (d .names) + 23 * length (d .rules) + 19 * bodyLiterals (d .rules) + cond (d .ended) 4 0
+weight d = (maxLength + 6) * length (d .names) + (maxLength + 7) * length (d .rules) + (maxLength + 3) * bodyLiterals (d .rules) + cond (d .ended) 4 0
 
 module _ (d : Content) (first : List ℕ) where
   weight-name : (others : List (List ℕ)) → first ≡ nameWord → Passes d Name others → weight d + byteCount (first ∷ others) ≤ weight (extended d Name others)
   unfolding extended wrongFields malformed byteCount weight
   weight-name others e c =
       let one : length others ≡ 1 = eqb-true (length others) 1 (not-false (eqb (length others) 1) (c .right-fields)) in
-      let short = fields-total isName 17 (λ x h. suc-le-suc (name-fits x h .1)) others (not-false (allFields isName others) (c .well-formed)) in
+      let short = fields-total isName (maxLength + 1) (λ x h. suc-le-suc (name-fits x h .1)) others (not-false (allFields isName others) (c .well-formed)) in
       omega (arith, ap length e, length-append (d .names) others)
 
   weight-rule : (others : List (List ℕ)) → first ≡ ruleWord → Passes d RuleWord others → weight d + byteCount (first ∷ others) ≤ weight (extended d RuleWord others)
@@ -94,7 +94,7 @@ module _ (d : Content) (first : List ℕ) where
       let forms = neither (hasTilde h) (not (allFields isLiteral (h ∷ body))) (c .well-formed) in
       let all = not-false (allFields isLiteral (h ∷ body)) (forms .1) in
       let head-short = head-length h (and-l (isLiteral h) (allFields isLiteral body) all) (forms .0) in
-      let body-short = fields-total isLiteral 19 literal-short body (and-r (isLiteral h) (allFields isLiteral body) all) in
+      let body-short = fields-total isLiteral (maxLength + 3) literal-short body (and-r (isLiteral h) (allFields isLiteral body) all) in
       let new = ruleFrom (d .names) (h ∷ body) in
       omega (arith, ap length e, length-append (d .rules) new, literals-append (d .rules) new, length-map body (entryFrom (d .names)))
 
@@ -124,11 +124,11 @@ weight-lines d (line ∷ lines) f =
 
 -- ---- the file
 
-within-weight : (d : Content) → Within d → weight d ≤ 53508
+within-weight : (d : Content) → Within d → weight d < maxBytes
 unfolding weight
 within-weight d w = go (d .ended)
   where
-    go : (t : Bool) → 22 * length (d .names) + 23 * length (d .rules) + 19 * bodyLiterals (d .rules) + cond t 4 0 ≤ 53508
+    go : (t : Bool) → (maxLength + 6) * length (d .names) + (maxLength + 7) * length (d .rules) + (maxLength + 3) * bodyLiterals (d .rules) + cond t 4 0 < maxBytes
     go true = omega arith
     go false = omega arith
 

@@ -17,7 +17,7 @@ use Rattle.scan.specs.declared.Word.{Word}
 use Rattle.scan.specs.declared.Word.the-variants.{Name, Rule as RuleWord, End, Unknown}
 use Rattle.scan.proofs.Bytes.{bytes-none, bytes-first, name-parts, parts-name}
 use Rattle.scan.proofs.Words.{IsWord, first-is, word-is}
-use Rattle.book.specs.Limits.{maxNames, maxRules, maxEntries}
+use Rattle.book.specs.Limits.{maxNames, maxRules, maxEntries, maxBody}
 use Rattle.book.specs.Book.{sameName, findFrom}
 use Rattle.book.proofs.Lookup.{same-decides, find-none, find-first, find-later}
 use Rattle.reader.specs.File.{Content, bodyLiterals, allFields, isLiteral, hasTilde, isFound, declared, wrongFields, headTilde, malformed, declaredBefore, usesUndeclared, beyondTable, maxBytes, unended}
@@ -178,10 +178,10 @@ module _ (first : List ℕ) (others : List (List ℕ)) where
       by-name : (not (eqb n 1) ≡ true) ↔ (suc n ≡ 2 → ⊥)
       by-name = not-is (eqb n 1) (λ e. ap suc (eqb-true n 1 e), λ e. eq-eqb n 1 (omega arith))
 
-      by-rule : (not (leb 1 n && leb n 17) ≡ true) ↔ ((2 ≤ suc n) × (suc n ≤ 18) → ⊥)
+      by-rule : (not (leb 1 n && leb n (maxBody + 1)) ≡ true) ↔ ((2 ≤ suc n) × (suc n ≤ maxBody + 2) → ⊥)
       by-rule =
-          not-is (leb 1 n && leb n 17)
-          (and-is (leb 1 n) (leb n 17) (λ e. suc-le-suc (leb-true 1 n e), λ h. le-leb 1 n (omega arith)) (λ e. suc-le-suc (leb-true n 17 e), λ h. le-leb n 17 (omega arith)))
+          not-is (leb 1 n && leb n (maxBody + 1))
+          (and-is (leb 1 n) (leb n (maxBody + 1)) (λ e. suc-le-suc (leb-true 1 n e), λ h. le-leb 1 n (omega arith)) (λ e. suc-le-suc (leb-true n (maxBody + 1) e), λ h. le-leb n (maxBody + 1) (omega arith)))
 
       by-end : (not (eqb n 0) ≡ true) ↔ (suc n ≡ 1 → ⊥)
       by-end = not-is (eqb n 0) (λ e. ap suc (eqb-true n 0 e), λ e. eq-eqb n 0 (omega arith))

@@ -16,7 +16,7 @@ use Rattle.scan.specs.Text.{fields, isName, wordOf, tildes, nameOf}
 use Rattle.scan.specs.declared.Word.{Word}
 use Rattle.scan.specs.declared.Word.the-variants.{Name, Rule as RuleWord, End, Unknown}
 use Rattle.scan.proofs.Forms.{lead-most}
-use Rattle.book.specs.Limits.{maxNames, maxRules, maxEntries}
+use Rattle.book.specs.Limits.{maxNames, maxRules, maxEntries, maxBody}
 use Rattle.book.specs.Book.{sameName, findFrom}
 use Rattle.book.proofs.Lookup.{find-none, find-first, find-later}
 use Rattle.book.proofs.Back.{literalIn}
@@ -30,7 +30,7 @@ pub record Within (d : Content) : Type 0 where
   pub names-fit : (n : List ℕ) → n isIn d .names → isName n ≡ true
   pub few-rules : length (d .rules) ≤ maxRules
   pub few-literals : bodyLiterals (d .rules) ≤ maxEntries
-  pub bodies-fit : (r : Rule) → r isIn d .rules → length (r .body) ≤ 16
+  pub bodies-fit : (r : Rule) → r isIn d .rules → length (r .body) ≤ maxBody
   pub heads-known : (r : Rule) → r isIn d .rules → r .head < 2 * length (d .names)
   pub entries-known : (r : Rule) → r isIn d .rules → (e : Entry) → e isIn r .body → literalIn e < 2 * length (d .names)
 
@@ -104,8 +104,8 @@ module _ (d : Content) (w : Within d) where
   within-rule [] c = absurd (true≢false (c .right-fields))
   within-rule (h ∷ body) c =
       let some = leb 1 (suc (length body)) in
-      let most = leb (suc (length body)) 17 in
-      let few : suc (length body) ≤ 17 = leb-true (suc (length body)) 17 (and-r some most (not-false (some && most) (c .right-fields))) in
+      let most = leb (suc (length body)) (maxBody + 1) in
+      let few : suc (length body) ≤ maxBody + 1 = leb-true (suc (length body)) (maxBody + 1) (and-r some most (not-false (some && most) (c .right-fields))) in
       let full = leb maxRules (length (d .rules)) in
       let long = ltb maxEntries (bodyLiterals (d .rules) + (suc (length body) - 1)) in
       let room : length (d .rules) < maxRules = leb-false maxRules (length (d .rules)) (neither full long (c .in-table) .0) in
@@ -127,7 +127,7 @@ module _ (d : Content) (w : Within d) where
         names-fit = w .names-fit;
         few-rules = omega arith;
         few-literals = omega arith;
-        bodies-fit = one-more (λ r. length (r .body) ≤ 16) (w .bodies-fit) (omega arith);
+        bodies-fit = one-more (λ r. length (r .body) ≤ maxBody) (w .bodies-fit) (omega arith);
         heads-known = one-more (λ r. r .head < 2 * length (d .names)) (w .heads-known) head-known;
         entries-known = one-more (λ r. (e : Entry) → e isIn r .body → literalIn e < 2 * length (d .names)) (w .entries-known) entry-known;
       }

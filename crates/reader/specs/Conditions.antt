@@ -9,8 +9,8 @@ use Prim.Native.Nat.{ℕ, _+_, _-_, _≤_, _<_}
 use lib.ListN.{length, getD, drop}
 use Rattle.wfsx.specs.Sets.{_isIn_}
 use Rattle.wfsx.specs.Program.{Rule}
-use Rattle.scan.specs.Text.{fields, nameWord, ruleWord, endWord, newline}
-use Rattle.book.specs.Limits.{maxNames, maxRules, maxEntries, maxLength}
+use Rattle.scan.specs.Text.{fields, nameWord, ruleWord, endWord, newline, maxLength}
+use Rattle.book.specs.Limits.{maxNames, maxRules, maxEntries, maxBody}
 use Rattle.book.specs.Book.{SameName}
 use Rattle.reader.specs.File.{Content, nothingYet, bodyLiterals, withLine, maxBytes, linesOf}
 
@@ -70,7 +70,7 @@ AfterEnd d = d .ended ≡ true
 abbrev pub FieldsWrong : List (List ℕ) → Type 0
 FieldsWrong fs =
     ((fs startsWith nameWord → ⊥) × (fs startsWith ruleWord → ⊥) × (fs startsWith endWord → ⊥)) ⊎ ((fs startsWith nameWord) × (length fs ≡ 2 → ⊥))
-    ⊎ ((fs startsWith ruleWord) × ((2 ≤ length fs) × (length fs ≤ 18) → ⊥)) ⊎ ((fs startsWith endWord) × (length fs ≡ 1 → ⊥))
+    ⊎ ((fs startsWith ruleWord) × ((2 ≤ length fs) × (length fs ≤ maxBody + 2) → ⊥)) ⊎ ((fs startsWith endWord) × (length fs ≡ 1 → ⊥))
 
 -- 5: a malformed name or literal, or a head with `~`
 abbrev pub FormWrong : List (List ℕ) → Type 0

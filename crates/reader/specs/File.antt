@@ -9,7 +9,7 @@ use Rattle.wfsx.specs.Program.{Entry, positive, default, Rule}
 use Rattle.scan.specs.Text.{isText, allBytes, split, fields, isName, wordOf, tildes, minuses, nameOf, newline}
 use Rattle.scan.specs.declared.Word.{Word}
 use Rattle.scan.specs.declared.Word.the-variants.{Name, Rule as RuleWord, End, Unknown}
-use Rattle.book.specs.Limits.{maxNames, maxRules, maxEntries}
+use Rattle.book.specs.Limits.{maxNames, maxRules, maxEntries, maxBody}
 use Rattle.book.specs.Book.{find}
 use Rattle.book.specs.declared.Found.{Found}
 use Rattle.book.specs.declared.Found.the-variants.{Nothing, At}
@@ -54,7 +54,7 @@ declared names n = isFound (find names n)
 -- 4: an unknown first field, or a wrong count of fields (name 2, rule 2 to 18, end 1)
 unfoldable pub wrongFields : Word → List (List ℕ) → Bool
 wrongFields Name others = not (eqb (length others) 1)
-wrongFields RuleWord others = not (leb 1 (length others) && leb (length others) 17)
+wrongFields RuleWord others = not (leb 1 (length others) && leb (length others) (maxBody + 1))
 wrongFields End others = not (eqb (length others) 0)
 wrongFields Unknown others = true
 

@@ -8,9 +8,9 @@ use lib.Dec.{leb, ltb}
 use lib.ListN.{length}
 use Rattle.wfsx.specs.Sets.{_isIn_}
 use Rattle.wfsx.specs.Program.{Rule}
-use Rattle.scan.specs.Text.{isName, tildes, minuses, nameOf}
+use Rattle.scan.specs.Text.{isName, tildes, minuses, nameOf, maxLength}
 use Rattle.scan.specs.declared.Word.{Word}
-use Rattle.book.specs.Limits.{maxNames, maxRules, maxEntries, maxLength}
+use Rattle.book.specs.Limits.{maxNames, maxRules, maxEntries}
 use Rattle.book.specs.Book.{find, textTable, lengthTable, headTable, startTable, entryTable}
 use Rattle.book.specs.declared.Found.{Found}
 use Rattle.book.specs.declared.Found.the-variants.{Nothing, At}

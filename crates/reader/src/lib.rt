@@ -8,7 +8,7 @@ ghost use lib.Seq.{sets};
 ghost use Rattle.wfsx.specs.Program.{Rule};
 ghost use Rattle.scan.specs.Text.{split, rest, fields, comma, newline};
 ghost use Rattle.scan.specs.declared.Word.the-variants.{Name, Rule as RuleWord, End};
-ghost use Rattle.book.specs.Limits.{maxNames, maxRules, maxEntries};
+ghost use Rattle.book.specs.Limits.{maxNames, maxRules, maxEntries, maxBody};
 ghost use Rattle.book.specs.Book.{clamp, namesIn, codeOf};
 ghost use Rattle.reader.specs.File.{Content, entryFrom, lineFault, withLine, readLines, nothingYet, readFile, accepted, refused};
 ghost use Rattle.reader.specs.Loading.{loadedOf};
@@ -64,7 +64,7 @@ fn name_line(count: usize, text: &mut [u8], lengths: &mut [u8], name: &[u8]) -> 
     if book::MAX_NAMES <= count {
         return 8;
     }
-    store::put_all(text, book::MAX_LENGTH * count, name);
+    store::put_all(text, scan::MAX_LENGTH * count, name);
     store::put8(lengths, count, name.len() as u8);
     0
 }
@@ -165,7 +165,7 @@ fn rule_line(
     from: usize,
     n: usize,
 ) -> u8
-    requires { ⌜ (t .used ≤ maxEntries) × (n ≤ 16) × (from ≤ length (now line)) × (n + 1 ≡ length (rest comma (now line) from)) ⌝ }
+    requires { ⌜ (t .used ≤ maxEntries) × (n ≤ maxBody) × (from ≤ length (now line)) × (n + 1 ≡ length (rest comma (now line) from)) ⌝ }
     ensures { λ r. ⌜ ((names : List (List ℕ)) (rules : List Rule) → NameTable names (t .names) (now (text .entry)) (now (lengths .entry)) → RuleTable rules (t .rules) (t .used) (now (heads .entry)) (now (starts .entry)) (now (entries .entry)) → RuleRead names rules (t .rules) (t .used) n (rest comma (now (line .entry)) from) r (now (heads .exit)) (now (starts .exit)) (now (entries .exit))) ⌝ }
 {
     if rule_form(line, from) != 0 {
@@ -246,10 +246,10 @@ fn with_rule(
     if n < 2 {
         return LineAnswer::Fault(4);
     }
-    if 18 < n {
+    let body = n - 2;
+    if book::MAX_BODY < body {
         return LineAnswer::Fault(4);
     }
-    let body = n - 2;
     let fault = rule_line(t, text, lengths, heads, starts, entries, line, from, body);
     if fault != 0 {
         return LineAnswer::Fault(fault);

@@ -73,10 +73,14 @@ fields line = split comma line
 
 -- ---- names
 
+-- the most bytes of a NAME; `src/lib.rt` has the same number
+abbrev pub maxLength : ℕ
+maxLength = 16
+
 -- a NAME has 1 to 16 bytes, of which the first is a letter
 unfoldable pub isName : List ℕ → Bool
 isName [] = false
-isName (x ∷ xs) = leb (length xs) 15 && (isLetter (classOf x) && allBytes (λ b. inName (classOf b)) xs)
+isName (x ∷ xs) = leb (suc (length xs)) maxLength && (isLetter (classOf x) && allBytes (λ b. inName (classOf b)) xs)
 
 -- ---- the first field
 

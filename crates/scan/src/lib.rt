@@ -4,6 +4,9 @@ ghost use Prim.Native.Nat.{_+_, _≤_};
 ghost use lib.ListN.{length, drop};
 ghost use Rattle.scan.specs.Text.{isText, classOf, isLetter, inName, allBytes, split, lenTo, isName, sameBytes, wordOf, lead, tildes, minuses, formOf};
 
+// The most bytes of a name; `maxLength` in specs/Text.antt is the same number.
+pub const MAX_LENGTH: usize = 16;
+
 // What a byte may be in a name.
 pub enum Class {
     Letter,
@@ -64,7 +67,7 @@ pub fn is_name(s: &[u8]) -> bool
     if s.len() == 0 {
         return false;
     }
-    if 16 < s.len() {
+    if MAX_LENGTH < s.len() {
         return false;
     }
     if !is_letter(class_of(s[0])) {

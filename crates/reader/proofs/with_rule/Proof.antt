@@ -2,11 +2,12 @@
 use borrow.Author.Needs.{needs}
 use mathlib.Core.Path.{sym, _∙_}
 use mathlib.Core.List.{List}
-use Prim.Native.Nat.{ℕ, _-_, _≤_}
+use Prim.Native.Nat.{ℕ, _-_, _≤_, _+_}
 use lib.ListN.{length}
 use Rattle.scan.specs.Text.{rest, comma}
 use Rattle.scan.specs.declared.Word.the-variants.{Rule as RuleWord}
 use Rattle.scan.proofs.Places.{rest-within}
+use Rattle.book.specs.Limits.{maxBody}
 use Rattle.reader.proofs.Judgement.{fault-fields, fault-rule, wrong-few, wrong-many, after-rule}
 use native.Mathlib.Omega.{arith}
 use Rattle.reader.proofs.with_rule.Statement.{statement}
@@ -19,7 +20,7 @@ others c = rest comma (c .args .line .now) (c .args .from)
 some-more : (c : tie.Else1) → 1 ≤ length (others (c .before .before .before .before .before .before .before))
 some-more c = omega (arith, c .before .before .before .before .before .before .before .pre .3, c .if1 .left)
 
-not-many : (c : tie.Else2) → length (others (c .before .before .before .before .before .before .before .before)) ≤ 17
+not-many : (c : tie.Else2) → length (others (c .before .before .before .before .before .before .before .before)) ≤ maxBody + 1
 not-many c = omega (arith, c .before .before .before .before .before .before .before .before .pre .3, c .if2 .left)
 
 returns : tie.Need-returns
