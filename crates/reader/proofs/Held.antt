@@ -1,7 +1,7 @@
 -- What the tables hold, when a name or a rule is read: the fault of its line by the tests in their order, and the tables with it added.
-use mathlib.Core.Path.{_≡_, refl, sym, ap, ap₂, _∙_, subst}
+use mathlib.Core.Path.{_≡_, sym, ap, ap₂, _∙_, subst}
 use mathlib.Core.Logic.{⊎-elim}
-use mathlib.Core.Bool.{Bool, true, false, not, _||_, or-true}
+use mathlib.Core.Bool.{true, false, not, or-true, Bool·not-not}
 use mathlib.Core.List.{List, [], _∷_, _++_, List·Memᴰ·append-cases, List·Memᴰ·eq-of-singleton}
 use Prim.Native.Nat.{ℕ, _+_, _-_, _*_, _≤_, _<_}
 use native.Mathlib.Omega.{arith}
@@ -10,15 +10,16 @@ use lib.Seq.{sets}
 use lib.Dec.{leb}
 use borrow.Author.Tests.{le-leb, lt-leb, lt-ltb, le-ltb}
 use Rattle.wfsx.specs.Program.{Rule}
-use Rattle.scan.specs.Text.{isName, nameOf, maxLength}
+use Rattle.scan.specs.Text.{isName, maxLength}
 use Rattle.book.specs.Limits.{maxNames, maxRules, maxEntries}
 use Rattle.book.specs.Book.{clamp, namesIn, codeOf, bodyCodes, textTable, lengthTable, startTable}
 use Rattle.book.proofs.Tables.{allCodes, codes-none, codes-first, text-more, length-more, head-more, start-more, entry-more}
 use Rattle.book.proofs.Counts.{clamp-least}
 use Rattle.book.proofs.Back.{names-back}
+use Rattle.scan.specs.declared.Word.the-variants.{Rule as RuleWord}
 use Rattle.reader.proofs.Within.{literals-append}
-use Rattle.reader.specs.File.{bodyLiterals, allFields, isLiteral, hasTilde, headTilde, declared, _when_else_}
-use Rattle.reader.specs.Steps.{NameTable, RuleTable, nameFault, formFault, ruleForm, ruleFault}
+use Rattle.reader.specs.File.{bodyLiterals, allFields, isLiteral, hasTilde, declared, isKnown, malformed}
+use Rattle.reader.specs.Steps.{NameTable, RuleTable, nameFault, ruleFault}
 
 -- ---- names
 
@@ -55,37 +56,29 @@ module _ {names : List (List ℕ)} {count : ℕ} {text lengths : List ℕ} (t : 
 
 -- ---- rules
 
--- a number that is given where a test says so
-pub when-none : (k : ℕ) (b : Bool) (r : ℕ) → r ≡ (k when b else 0) → r ≡ 0 → (k ≡ 0 → ⊥) → b ≡ false
-when-none k true r e z p = absurd (p (sym e ∙ z))
-when-none k false r e z p = refl
-
-pub when-some : (k : ℕ) (b : Bool) (r : ℕ) → r ≡ (k when b else 0) → (r ≡ 0 → ⊥) → b ≡ true
-when-some k true r e p = refl
-when-some k false r e p = absurd (p e)
-
 -- the form of a rule by its head and the form of its body
 module _ (h : List ℕ) (ls : List (List ℕ)) where
-  pub head-malformed : isLiteral h ≡ false → 5 ≡ ruleForm (h ∷ ls)
-  unfolding allFields
+  pub head-malformed : isLiteral h ≡ false → false ≡ not (malformed RuleWord (h ∷ ls))
+  unfolding malformed allFields
   head-malformed e = rw (e, or-true (hasTilde h))
 
-  pub head-tilde : hasTilde h ≡ true → 5 ≡ ruleForm (h ∷ ls)
+  pub head-tilde : hasTilde h ≡ true → false ≡ not (malformed RuleWord (h ∷ ls))
+  unfolding malformed
   head-tilde e = rw e
 
-  pub head-formed : isLiteral h ≡ true → hasTilde h ≡ false → formFault ls ≡ ruleForm (h ∷ ls)
-  unfolding allFields
-  head-formed literal plain = rw (literal, plain)
+  pub head-formed : isLiteral h ≡ true → hasTilde h ≡ false → allFields isLiteral ls ≡ not (malformed RuleWord (h ∷ ls))
+  unfolding malformed allFields
+  head-formed literal plain = rw (literal, plain, Bool·not-not (allFields isLiteral ls))
 
 module _ (names : List (List ℕ)) (rules : List Rule) (fs : List (List ℕ)) where
-  pub rule-malformed : (headTilde fs || not (allFields isLiteral fs)) ≡ true → 5 ≡ ruleFault names rules fs
+  pub rule-malformed : malformed RuleWord fs ≡ true → 5 ≡ ruleFault names rules fs
   rule-malformed e = rw e
 
-  module _ (formed : (headTilde fs || not (allFields isLiteral fs)) ≡ false) where
-    pub rule-undeclared : allFields (λ f. declared names (nameOf f)) fs ≡ false → 7 ≡ ruleFault names rules fs
+  module _ (formed : malformed RuleWord fs ≡ false) where
+    pub rule-undeclared : allFields (isKnown names) fs ≡ false → 7 ≡ ruleFault names rules fs
     rule-undeclared e = rw (formed, e)
 
-    module _ (known : allFields (λ f. declared names (nameOf f)) fs ≡ true) where
+    module _ (known : allFields (isKnown names) fs ≡ true) where
       pub rule-too-many : maxRules ≤ length rules → 8 ≡ ruleFault names rules fs
       rule-too-many l = rw (formed, known, le-leb maxRules (length rules) l)
 

@@ -20,7 +20,7 @@ use Rattle.scan.proofs.Words.{IsWord, first-is, word-is}
 use Rattle.book.specs.Limits.{maxNames, maxRules, maxEntries, maxBody}
 use Rattle.book.specs.Book.{sameName, findFrom}
 use Rattle.book.proofs.Lookup.{same-decides, find-none, find-first, find-later}
-use Rattle.reader.specs.File.{Content, bodyLiterals, allFields, isLiteral, hasTilde, isFound, declared, wrongFields, headTilde, malformed, declaredBefore, usesUndeclared, beyondTable, maxBytes, unended}
+use Rattle.reader.specs.File.{Content, bodyLiterals, allFields, isLiteral, hasTilde, isFound, declared, wrongFields, headTilde, malformed, declaredBefore, usesUndeclared, beyondTable, maxBytes, unended, isKnown}
 use Rattle.reader.specs.Conditions.{LetterByte, NameByte, NameText, Optional, LiteralText, TooLong, StrangeByte, LastLineOpen, SomeField, FieldsWrong, FormWrong, Declared, NameTaken, NameMissing, TableFull}
 use Rattle.reader.proofs.Faults.{neither, each-field, each-passes, all-pass, fails-where, no-entries}
 
@@ -264,7 +264,7 @@ module _ (first : List ℕ) (others : List (List ℕ)) where
       one : (usesUndeclared d (wordOf first) others ≡ true) ↔ (((first ≡ nameWord) × ⊥) ⊎ NameMissing d (first ∷ others))
       one =
           named-or-ruled (λ w. usesUndeclared d w others) refl refl (λ e. true≢false (sym e), λ z. absurd z)
-          (λ s. some-field (λ f. declared (d .names) (nameOf f)) (λ f. (n : List ℕ) × LiteralText f n × (Declared (d .names) n → ⊥))
+          (λ s. some-field (isKnown (d .names)) (λ f. (n : List ℕ) × LiteralText f n × (Declared (d .names) n → ⊥))
           (λ f m. missing f (each-field isLiteral m (literals s))))
 
   pub table-full : (d : Content) → (beyondTable d (wordOf first) others ≡ true) ↔ TableFull d (first ∷ others)

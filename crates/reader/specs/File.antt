@@ -49,6 +49,10 @@ isFound (At i) = true
 abbrev pub declared : List (List ℕ) → List ℕ → Bool
 declared names n = isFound (find names n)
 
+-- a field whose name an earlier line declares
+abbrev pub isKnown : List (List ℕ) → List ℕ → Bool
+isKnown names f = declared names (nameOf f)
+
 -- ---- the conditions of the table, over the first field and the others
 
 -- 4: an unknown first field, or a wrong count of fields (name 2, rule 2 to 18, end 1)
@@ -80,7 +84,7 @@ declaredBefore d Unknown others = false
 -- 7: a rule uses an undeclared name
 unfoldable pub usesUndeclared : Content → Word → List (List ℕ) → Bool
 usesUndeclared d Name others = false
-usesUndeclared d RuleWord others = not (allFields (λ f. declared (d .names) (nameOf f)) others)
+usesUndeclared d RuleWord others = not (allFields (isKnown (d .names)) others)
 usesUndeclared d End others = false
 usesUndeclared d Unknown others = false
 

@@ -14,7 +14,8 @@ use Rattle.book.specs.Limits.{maxNames, maxRules, maxEntries}
 use Rattle.book.specs.Book.{find, textTable, lengthTable, headTable, startTable, entryTable}
 use Rattle.book.specs.declared.Found.{Found}
 use Rattle.book.specs.declared.Found.the-variants.{Nothing, At}
-use Rattle.reader.specs.File.{Content, bodyLiterals, allFields, isLiteral, declared, headTilde, _when_else_, ruleFrom, faultOf, extended}
+use Rattle.scan.specs.declared.Word.the-variants.{Rule as RuleWord}
+use Rattle.reader.specs.File.{Content, bodyLiterals, allFields, declared, _when_else_, ruleFrom, faultOf, extended, isKnown, malformed}
 use Rattle.reader.specs.declared.Counts.{Counts}
 use Rattle.reader.specs.declared.LineAnswer.{LineAnswer}
 use Rattle.reader.specs.declared.LineAnswer.the-variants.{Fine, Fault}
@@ -56,22 +57,10 @@ nameFault names n =
     else 8 when leb maxNames (length names)
     else 0
 
--- 5 where a field is malformed
-abbrev pub formFault : List (List ℕ) → ℕ
-formFault fs = 5 when not (allFields isLiteral fs) else 0
-
--- 5 where the head of a rule has a `~`, or a field is malformed
-abbrev pub ruleForm : List (List ℕ) → ℕ
-ruleForm fs = 5 when headTilde fs || not (allFields isLiteral fs) else 0
-
--- 7 where a field's name is not declared
-abbrev pub knownFault : List (List ℕ) → List (List ℕ) → ℕ
-knownFault names fs = 7 when not (allFields (λ f. declared names (nameOf f)) fs) else 0
-
 abbrev pub ruleFault : List (List ℕ) → List Rule → List (List ℕ) → ℕ
 ruleFault names rules fs =
-    5 when headTilde fs || not (allFields isLiteral fs)
-    else 7 when not (allFields (λ f. declared names (nameOf f)) fs)
+    5 when malformed RuleWord fs
+    else 7 when not (allFields (isKnown names) fs)
     else 8 when leb maxRules (length rules) || ltb maxEntries (bodyLiterals rules + (length fs - 1))
     else 0
 

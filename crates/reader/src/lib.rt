@@ -1,6 +1,6 @@
 // A marking file of whatever bytes becomes a book, or is refused under its number and line.
 ghost use mathlib.Core.Path.{_≡_};
-ghost use mathlib.Core.Bool.{true, false};
+ghost use mathlib.Core.Bool.{true, false, not};
 ghost use mathlib.Core.List.{List, map};
 ghost use Prim.Native.Nat.{ℕ, _+_, _≤_};
 ghost use lib.ListN.{length};
@@ -10,9 +10,9 @@ ghost use Rattle.scan.specs.Text.{split, rest, fields, comma, newline};
 ghost use Rattle.scan.specs.declared.Word.the-variants.{Name, Rule as RuleWord, End};
 ghost use Rattle.book.specs.Limits.{maxNames, maxRules, maxEntries, maxBody};
 ghost use Rattle.book.specs.Book.{clamp, namesIn, codeOf};
-ghost use Rattle.reader.specs.File.{Content, entryFrom, lineFault, withLine, readLines, nothingYet, readFile, accepted, refused};
+ghost use Rattle.reader.specs.File.{Content, allFields, isLiteral, isKnown, malformed, entryFrom, lineFault, withLine, readLines, nothingYet, readFile, accepted, refused};
 ghost use Rattle.reader.specs.Loading.{loadedOf};
-ghost use Rattle.reader.specs.Steps.{NameTable, RuleTable, Holds, noCounts, formFault, ruleForm, knownFault, knownOf, NameRead, RuleRead, LineRead, WordRead};
+ghost use Rattle.reader.specs.Steps.{NameTable, RuleTable, Holds, noCounts, knownOf, NameRead, RuleRead, LineRead, WordRead};
 use book::Book;
 use book::Found;
 use scan::Form;
@@ -71,10 +71,10 @@ fn name_line(count: usize, text: &mut [u8], lengths: &mut [u8], name: &[u8]) -> 
 
 // ---- a rule's line
 
-// 5 where a field from place `from` on is malformed.
-fn form_fault(line: &[u8], from: usize) -> u8
+// Whether every field from place `from` on reads as a literal.
+fn all_literals(line: &[u8], from: usize) -> bool
     requires { ⌜ from ≤ length (now line) + 1 ⌝ }
-    ensures { λ r. ⌜ r ≡ formFault (rest comma (now (line .entry)) from) ⌝ }
+    ensures { λ r. ⌜ r ≡ allFields isLiteral (rest comma (now (line .entry)) from) ⌝ }
 {
     let mut p = from;
     while p <= line.len() {
@@ -84,26 +84,26 @@ fn form_fault(line: &[u8], from: usize) -> u8
             minuses: _,
         } = scan::form_of(&line[p..e])
         else {
-            return 5;
+            return false;
         };
         p = e + 1;
     }
-    0
+    true
 }
 
-// 5 where the head at `from` has a `~`, or is malformed, or a field behind it is malformed.
-fn rule_form(line: &[u8], from: usize) -> u8
+// Whether the head at `from` and every field behind it reads as a literal, and the head has no `~`.
+fn well_formed(line: &[u8], from: usize) -> bool
     requires { ⌜ from ≤ length (now line) ⌝ }
-    ensures { λ r. ⌜ r ≡ ruleForm (rest comma (now (line .entry)) from) ⌝ }
+    ensures { λ r. ⌜ r ≡ not (malformed RuleWord (rest comma (now (line .entry)) from)) ⌝ }
 {
     let e = scan::end_of(line, from, b',');
     let Form::Literal { tildes, minuses: _ } = scan::form_of(&line[from..e]) else {
-        return 5;
+        return false;
     };
     if tildes != 0 {
-        return 5;
+        return false;
     }
-    form_fault(line, e + 1)
+    all_literals(line, e + 1)
 }
 
 // A field's name looked up: its literal, and how many `~` stand before it.
@@ -126,8 +126,8 @@ fn known_of(text: &[u8], lengths: &[u8], count: usize, f: &[u8]) -> Known
     }
 }
 
-// 7 where a field from place `from` on has an undeclared name; otherwise its entries stand from `at` on.
-fn body_entries(
+// Whether every field from place `from` on has a declared name. Then their entries stand from `at` on.
+fn all_known(
     text: &[u8],
     lengths: &[u8],
     count: usize,
@@ -135,22 +135,22 @@ fn body_entries(
     at: usize,
     line: &[u8],
     from: usize,
-) -> u8
+) -> bool
     requires { ⌜ (from ≤ length (now line) + 1) × (at ≤ maxEntries) ⌝ }
-    ensures { λ r. ⌜ (r ≡ knownFault (namesIn (now (text .entry)) (now (lengths .entry)) (clamp maxNames count)) (rest comma (now (line .entry)) from)) × (r ≡ 0 → now (entries .exit) ≡ sets (now (entries .entry)) at (map (λ f. codeOf (entryFrom (namesIn (now (text .entry)) (now (lengths .entry)) (clamp maxNames count)) f)) (rest comma (now (line .entry)) from))) ⌝ }
+    ensures { λ r. ⌜ (r ≡ allFields (isKnown (namesIn (now (text .entry)) (now (lengths .entry)) (clamp maxNames count))) (rest comma (now (line .entry)) from)) × (r ≡ true → now (entries .exit) ≡ sets (now (entries .entry)) at (map (λ f. codeOf (entryFrom (namesIn (now (text .entry)) (now (lengths .entry)) (clamp maxNames count)) f)) (rest comma (now (line .entry)) from))) ⌝ }
 {
     let mut k = at;
     let mut p = from;
     while p <= line.len() {
         let e = scan::end_of(line, p, b',');
         let Known::Entry { literal, tildes } = known_of(text, lengths, count, &line[p..e]) else {
-            return 7;
+            return false;
         };
         store::put16(entries, k, (2 * literal + tildes) as u16);
         k += 1;
         p = e + 1;
     }
-    0
+    true
 }
 
 // The fault of a rule whose head stands at `from` with n body literals behind it, or 0 where it was added to the tables.
@@ -168,7 +168,7 @@ fn rule_line(
     requires { ⌜ (t .used ≤ maxEntries) × (n ≤ maxBody) × (from ≤ length (now line)) × (n + 1 ≡ length (rest comma (now line) from)) ⌝ }
     ensures { λ r. ⌜ ((names : List (List ℕ)) (rules : List Rule) → NameTable names (t .names) (now (text .entry)) (now (lengths .entry)) → RuleTable rules (t .rules) (t .used) (now (heads .entry)) (now (starts .entry)) (now (entries .entry)) → RuleRead names rules (t .rules) (t .used) n (rest comma (now (line .entry)) from) r (now (heads .exit)) (now (starts .exit)) (now (entries .exit))) ⌝ }
 {
-    if rule_form(line, from) != 0 {
+    if !well_formed(line, from) {
         return 5;
     }
     let e = scan::end_of(line, from, b',');
@@ -176,7 +176,7 @@ fn rule_line(
     else {
         return 7;
     };
-    if body_entries(text, lengths, t.names, entries, t.used, line, e + 1) != 0 {
+    if !all_known(text, lengths, t.names, entries, t.used, line, e + 1) {
         return 7;
     }
     let rules = t.rules;

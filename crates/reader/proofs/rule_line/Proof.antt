@@ -1,7 +1,7 @@
 -- `rule_line`: each test that fails settles the fault, in the definition's order; a rule that passes them is stored behind the others.
 use borrow.Author.Needs.{needs}
 use mathlib.Core.Path.{_≡_, sym, ap, _∙_}
-use mathlib.Core.Bool.{true, false, not, _||_}
+use mathlib.Core.Bool.{true, false}
 use mathlib.Core.List.{List, _∷_, map, map-map}
 use Prim.Native.Nat.{ℕ, _+_, _-_, _≤_}
 use lib.ListN.{length, take, drop, set, length-map}
@@ -11,9 +11,10 @@ use Rattle.scan.specs.Text.{rest, nameOf, comma}
 use Rattle.scan.proofs.Places.{rest-step}
 use Rattle.book.specs.Limits.{maxNames}
 use Rattle.book.specs.Book.{clamp, namesIn, codeOf}
-use Rattle.reader.specs.File.{allFields, isLiteral, headTilde, declared, literalNumber, entryFrom}
+use Rattle.scan.specs.declared.Word.the-variants.{Rule as RuleWord}
+use Rattle.reader.specs.File.{allFields, isKnown, malformed, declared, literalNumber, entryFrom}
 use Rattle.reader.proofs.Fields.{fields-go, fields-stop, not-declared, is-declared, literal-is, known-small}
-use Rattle.reader.proofs.Held.{when-none, when-some, held-names, rule-malformed, rule-undeclared, rule-too-many, rule-too-long, rule-fine, rule-added}
+use Rattle.reader.proofs.Held.{held-names, rule-malformed, rule-undeclared, rule-too-many, rule-too-long, rule-fine, rule-added}
 use native.Mathlib.Omega.{arith}
 use Rattle.reader.proofs.rule_line.Statement.{statement}
 use Rattle.reader.proofs.rule_line.Tie as tie
@@ -40,29 +41,29 @@ inside : (c : tie.After-end-of) → c .end-of .result ≤ length (c .before .bef
 inside c = c .end-of .ensures .2 (c .before .before .before .before .before .before .before .before .before .pre .2)
 
 -- no field is malformed and the head has no `~`
-formed : (c : tie.Else1) → (headTilde (fields-of (c .before .before .before .before .before .before .before .before)) || not (allFields isLiteral (fields-of (c .before .before .before .before .before .before .before .before)))) ≡ false
-formed c = when-none 5 _ (c .before .rule-form .result) (c .before .rule-form .ensures) (c .if1 .left) (λ e. omega arith)
+formed : (c : tie.Else1) → malformed RuleWord (fields-of (c .before .before .before .before .before .before .before .before)) ≡ false
+formed c = not-true _ (sym (c .before .well-formed .ensures) ∙ not-false _ (c .if1 .left))
 
 -- the head's name is declared, so the fields behind it decide
 head-known : (c : tie.After-known-told) {names : List (List ℕ)} → names-in (c .before .before .before .before .before .before .before .before .before .before .before .before .before .before) ≡ names
-    → allFields (λ f. declared names (nameOf f)) (fields-of (c .before .before .before .before .before .before .before .before .before .before .before .before .before .before)) ≡ allFields (λ f. declared names (nameOf f)) (others (c .before .before .before .before .before))
+    → allFields (isKnown names) (fields-of (c .before .before .before .before .before .before .before .before .before .before .before .before .before .before)) ≡ allFields (isKnown names) (others (c .before .before .before .before .before))
 head-known c {names} e =
     let end = c .before .before .before .before .before in
     let head : declared (names-in (c .before .before .before .before .before .before .before .before .before .before .before .before .before .before)) (nameOf (head-field end)) ≡ true = is-declared (names-in (c .before .before .before .before .before .before .before .before .before .before .before .before .before .before)) (head-field end) _ _ (sym (c .before .before .before .known-of .ensures) ∙ c .before .literal .given .1) in
-    fields-go (λ f. declared names (nameOf f)) (c .before .before .before .before .before .before .before .before .before .before .before .before .before .before .args .line .now) (c .before .before .before .before .before .before .before .before .before .before .before .before .before .before .args .from) (end .end-of .result) (c .before .before .before .before .before .before .before .before .before .before .before .before .before .before .pre .2) (end .end-of .ensures .0) (sym (ap (λ (l : List (List ℕ)). declared l (nameOf (head-field end))) e) ∙ head)
+    fields-go (isKnown names) (c .before .before .before .before .before .before .before .before .before .before .before .before .before .before .args .line .now) (c .before .before .before .before .before .before .before .before .before .before .before .before .before .before .args .from) (end .end-of .result) (c .before .before .before .before .before .before .before .before .before .before .before .before .before .before .pre .2) (end .end-of .ensures .0) (sym (ap (λ (l : List (List ℕ)). declared l (nameOf (head-field end))) e) ∙ head)
 
 -- all names are declared
-all-known : (c : tie.Else2) {names : List (List ℕ)} → names-in (c .before .before .before .before .before .before .before .before .before .before .before .before .before .before .before .before .before .before .before) ≡ names → allFields (λ f. declared names (nameOf f)) (fields-of (c .before .before .before .before .before .before .before .before .before .before .before .before .before .before .before .before .before .before .before)) ≡ true
-all-known c e =
-    head-known (c .before .before .before .before .before) e ∙ sym (ap (λ (l : List (List ℕ)). allFields (λ f. declared l (nameOf f)) (others (c .before .before .before .before .before .before .before .before .before .before))) e)
-    ∙ not-false _ (when-none 7 _ (c .before .before .before .body-entries .result) (c .before .before .before .body-entries .ensures .0) (c .if2 .left) (λ q. omega arith))
+names-known : (c : tie.Else2) {names : List (List ℕ)} → names-in (c .before .before .before .before .before .before .before .before .before .before .before .before .before .before .before .before .before .before .before) ≡ names → allFields (isKnown names) (fields-of (c .before .before .before .before .before .before .before .before .before .before .before .before .before .before .before .before .before .before .before)) ≡ true
+names-known c e =
+    head-known (c .before .before .before .before .before) e ∙ sym (ap (λ (l : List (List ℕ)). allFields (isKnown l) (others (c .before .before .before .before .before .before .before .before .before .before))) e)
+    ∙ sym (c .before .before .before .all-known .ensures .0) ∙ not-false _ (c .if2 .left)
 
-rule-form-requires : tie.Need-rule-form-requires
-rule-form-requires c κs = search needs
+well-formed-requires : tie.Need-well-formed-requires
+well-formed-requires c κs = search needs
 
 returns : tie.Need-returns
 returns c =
-    let bad = when-some 5 _ (c .before .rule-form .result) (c .before .rule-form .ensures) (c .if1 .taken) in
+    let bad = not-false _ (sym (c .before .well-formed .ensures) ∙ not-true _ (c .if1 .taken)) in
     λ names rules nh rh. record { fault-is = rule-malformed names rules (fields-of (c .before .before .before .before .before .before .before .before)) bad; added = λ e. absurd (omega arith) }
 
 end-of-requires : tie.Need-end-of-requires
@@ -93,25 +94,25 @@ returns-2 c =
     let head : declared (names-in s) (nameOf (head-field end)) ≡ false = not-declared (names-in s) _ (sym (c .before .before .known-of .ensures) ∙ c .enum-told .given .1) in
     λ names rules nh rh. record {
       fault-is = rule-undeclared names rules (fields-of s) (formed (c .before .before .before .before .before))
-          (fields-stop (λ f. declared names (nameOf f)) (s .args .line .now) (s .args .from) (end .end-of .result) (s .pre .2) (end .end-of .ensures .0) (sym (ap (λ (l : List (List ℕ)). declared l (nameOf (head-field end))) (held-names nh)) ∙ head));
+          (fields-stop (isKnown names) (s .args .line .now) (s .args .from) (end .end-of .result) (s .pre .2) (end .end-of .ensures .0) (sym (ap (λ (l : List (List ℕ)). declared l (nameOf (head-field end))) (held-names nh)) ∙ head));
       added = λ q. absurd (omega arith);
     }
 
-add-body-entries : tie.Need-add-body-entries
-add-body-entries c = let within = inside (c .before .before .before .before .before .before) in search needs
+add-all-known : tie.Need-add-all-known
+add-all-known c = let within = inside (c .before .before .before .before .before .before) in search needs
 
-body-entries-requires : tie.Need-body-entries-requires
-body-entries-requires c κs = let within = inside (c .before .before .before .before .before .before) in (omega arith, c .before .before .before .before .before .before .before .before .before .before .before .before .before .before .before .pre .0)
+all-known-requires : tie.Need-all-known-requires
+all-known-requires c κs = let within = inside (c .before .before .before .before .before .before) in (omega arith, c .before .before .before .before .before .before .before .before .before .before .before .before .before .before .before .pre .0)
 
 same-length : tie.Need-same-length
 same-length c = search needs
 
 returns-3 : tie.Need-returns-3
 returns-3 c =
-    let bad = when-some 7 _ (c .before .before .before .body-entries .result) (c .before .before .before .body-entries .ensures .0) (c .if2 .taken) in
+    let bad = sym (c .before .before .before .all-known .ensures .0) ∙ not-true _ (c .if2 .taken) in
     λ names rules nh rh. record {
       fault-is = rule-undeclared names rules (fields-of (c .before .before .before .before .before .before .before .before .before .before .before .before .before .before .before .before .before .before .before)) (formed (c .before .before .before .before .before .before .before .before .before .before .before))
-          (head-known (c .before .before .before .before .before) (held-names nh) ∙ sym (ap (λ (l : List (List ℕ)). allFields (λ f. declared l (nameOf f)) (others (c .before .before .before .before .before .before .before .before .before .before))) (held-names nh)) ∙ not-true _ bad);
+          (head-known (c .before .before .before .before .before) (held-names nh) ∙ sym (ap (λ (l : List (List ℕ)). allFields (isKnown l) (others (c .before .before .before .before .before .before .before .before .before .before))) (held-names nh)) ∙ bad);
       added = λ q. absurd (omega arith);
     }
 
@@ -121,7 +122,7 @@ same-length-2 c = search needs
 returns-4 : tie.Need-returns-4
 returns-4 c =
     λ names rules nh rh. record {
-      fault-is = rule-too-many names rules (fields-of (c .before .before .before .before .before .before .before .before .before .before .before .before .before .before .before .before .before .before .before .before)) (formed (c .before .before .before .before .before .before .before .before .before .before .before .before)) (all-known (c .before) (held-names nh)) (omega (arith, c .if3 .taken, rh .counted));
+      fault-is = rule-too-many names rules (fields-of (c .before .before .before .before .before .before .before .before .before .before .before .before .before .before .before .before .before .before .before .before)) (formed (c .before .before .before .before .before .before .before .before .before .before .before .before)) (names-known (c .before) (held-names nh)) (omega (arith, c .if3 .taken, rh .counted));
       added = λ q. absurd (omega arith);
     }
 
@@ -134,7 +135,7 @@ same-length-3 c = search needs
 returns-5 : tie.Need-returns-5
 returns-5 c =
     λ names rules nh rh. record {
-      fault-is = rule-too-long names rules (fields-of (c .before .before .before .before .before .before .before .before .before .before .before .before .before .before .before .before .before .before .before .before .before .before)) (formed (c .before .before .before .before .before .before .before .before .before .before .before .before .before .before)) (all-known (c .before .before .before) (held-names nh)) (omega (arith, c .if4 .taken, rh .used-is, c .before .before .before .before .before .before .before .before .before .before .before .before .before .before .before .before .before .before .before .before .before .before .pre .3));
+      fault-is = rule-too-long names rules (fields-of (c .before .before .before .before .before .before .before .before .before .before .before .before .before .before .before .before .before .before .before .before .before .before)) (formed (c .before .before .before .before .before .before .before .before .before .before .before .before .before .before)) (names-known (c .before .before .before) (held-names nh)) (omega (arith, c .if4 .taken, rh .used-is, c .before .before .before .before .before .before .before .before .before .before .before .before .before .before .before .before .before .before .before .before .before .before .pre .3));
       added = λ q. absurd (omega arith);
     }
 
@@ -173,14 +174,14 @@ returns-6 c =
     let few = c .before .before .before .before .before .before .before .before .before .before .if3 .left in
     let fits = c .before .before .before .before .before .before .before .before .if4 .left in
     λ names rules nh rh. record {
-      fault-is = rule-fine names rules (fields-of s) (formed (c .before .before .before .before .before .before .before .before .before .before .before .before .before .before .before .before .before .before .before .before .before .before)) (all-known (c .before .before .before .before .before .before .before .before .before .before .before) (held-names nh)) (omega (arith, few, rh .counted)) (omega (arith, fits, rh .used-is, s .pre .3));
+      fault-is = rule-fine names rules (fields-of s) (formed (c .before .before .before .before .before .before .before .before .before .before .before .before .before .before .before .before .before .before .before .before .before .before)) (names-known (c .before .before .before .before .before .before .before .before .before .before .before) (held-names nh)) (omega (arith, few, rh .counted)) (omega (arith, fits, rh .used-is, s .pre .3));
       added = λ q. rw (parted end)
           (rule-added rh (record { head = literalNumber names (head-field end); body = map (entryFrom names) (others end) }) (a .n) _ _ _
           (length-map (others end) (entryFrom names) ∙ omega (arith, ap length (parted end), s .pre .3)) few fits
           (c .before .before .before .before .before .before .put16 .ensures ∙ ap (set (a .heads .now) (a .t .rules)) (sym (literal-is (names-in s) (head-field end) _ _ (sym (c .before .before .before .before .before .before .before .before .before .before .before .before .before .before .before .before .before .before .before .known-of .ensures) ∙ c .before .before .before .before .before .before .before .before .before .before .before .before .before .before .before .before .before .literal .given .1))
           ∙ ap (λ (l : List (List ℕ)). literalNumber l (head-field end)) (held-names nh)))
           (c .before .before .put162 .ensures)
-          (c .before .before .before .before .before .before .before .before .before .before .before .before .before .before .body-entries .ensures .1 (c .before .before .before .before .before .before .before .before .before .before .before .if2 .left)
+          (c .before .before .before .before .before .before .before .before .before .before .before .before .before .before .all-known .ensures .1 (not-false _ (c .before .before .before .before .before .before .before .before .before .before .before .if2 .left))
           ∙ ap (λ (l : List (List ℕ)). sets (a .entries .now) (a .t .used) (map (λ f. codeOf (entryFrom l f)) (others end))) (held-names nh)
           ∙ ap (sets (a .entries .now) (a .t .used)) (sym (map-map codeOf (entryFrom names) (others end)))));
     }
@@ -189,7 +190,7 @@ pub rule-line-spec : {M : Type 1} → statement M
 rule-line-spec =
     tie.close
     (tie.spec
-    rule-form-requires
+    well-formed-requires
     returns
     end-of-requires
     sub-known-of
@@ -199,8 +200,8 @@ rule-line-spec =
     enum-known-literal
     enum-told
     returns-2
-    add-body-entries
-    body-entries-requires
+    add-all-known
+    all-known-requires
     same-length
     returns-3
     same-length-2

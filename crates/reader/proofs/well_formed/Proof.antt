@@ -1,6 +1,7 @@
--- `rule_form`: the head decides, or else the fields behind it do.
+-- `well_formed`: the head decides, or else the fields behind it do.
 use borrow.Author.Needs.{needs}
 use mathlib.Core.Path.{_≡_, sym, ap, _∙_}
+use mathlib.Core.Bool.{not}
 use mathlib.Core.List.{List, _∷_}
 use Prim.Native.Nat.{ℕ, _+_, _-_, _≤_}
 use lib.ListN.{length, take, drop}
@@ -10,11 +11,12 @@ use Rattle.scan.specs.Text.{rest, tildes, formOf, comma}
 use Rattle.scan.specs.declared.Form.the-variants.{Literal}
 use Rattle.scan.proofs.Places.{rest-step}
 use Rattle.scan.proofs.Forms.{lead-most, malformed-form, literal-form, form-tildes}
-use Rattle.reader.specs.Steps.{ruleForm}
+use Rattle.reader.specs.File.{malformed}
+use Rattle.scan.specs.declared.Word.the-variants.{Rule as RuleWord}
 use Rattle.reader.proofs.Held.{head-malformed, head-tilde, head-formed}
 use native.Mathlib.Omega.{arith}
-use Rattle.reader.proofs.rule_form.Statement.{statement}
-use Rattle.reader.proofs.rule_form.Tie as tie
+use Rattle.reader.proofs.well_formed.Statement.{statement}
+use Rattle.reader.proofs.well_formed.Tie as tie
 
 -- the head's field, and the fields behind it
 abbrev head-field : tie.After-end-of → List ℕ
@@ -23,8 +25,8 @@ head-field c = take (c .end-of .result - c .before .before .args .from) (drop (c
 abbrev others : tie.After-end-of → List (List ℕ)
 others c = rest comma (c .before .before .args .line .now) (c .end-of .result + 1)
 
-joined : (c : tie.After-end-of) → ruleForm (head-field c ∷ others c) ≡ ruleForm (rest comma (c .before .before .args .line .now) (c .before .before .args .from))
-joined c = ap ruleForm (sym (rest-step comma (c .before .before .args .line .now) (c .before .before .args .from) (c .end-of .result) (c .before .before .pre) (c .end-of .ensures .0)))
+joined : (c : tie.After-end-of) → not (malformed RuleWord (head-field c ∷ others c)) ≡ not (malformed RuleWord (rest comma (c .before .before .args .line .now) (c .before .before .args .from)))
+joined c = ap (λ (fs : List (List ℕ)). not (malformed RuleWord fs)) (sym (rest-step comma (c .before .before .args .line .now) (c .before .before .args .from) (c .end-of .result) (c .before .before .pre) (c .end-of .ensures .0)))
 
 inside : (c : tie.After-end-of) → c .end-of .result ≤ length (c .before .before .args .line .now)
 inside c = c .end-of .ensures .2 (c .before .before .pre)
@@ -65,21 +67,21 @@ returns-2 c =
     let one : tildes head ≡ 1 = omega (arith, lead-most 126 head, c .if1 .taken) in
     head-tilde head (others (c .before .before .before .before .before .before)) (eq-eqb _ 1 one) ∙ joined (c .before .before .before .before .before .before)
 
-add-form-fault : tie.Need-add-form-fault
-add-form-fault c = let within = inside (c .before .before .before .before .before .before) in search needs
+add-all-literals : tie.Need-add-all-literals
+add-all-literals c = let within = inside (c .before .before .before .before .before .before) in search needs
 
-form-fault-requires : tie.Need-form-fault-requires
-form-fault-requires c κs = let within = inside (c .before .before .before .before .before .before) in omega arith
+all-literals-requires : tie.Need-all-literals-requires
+all-literals-requires c κs = let within = inside (c .before .before .before .before .before .before) in omega arith
 
 returns-3 : tie.Need-returns-3
 returns-3 c =
     let head = head-field (c .before .before .before .before .before .before .before) in
     let form = head-form (c .before .before) in
-    c .form-fault .ensures
+    c .all-literals .ensures
     ∙ head-formed head (others (c .before .before .before .before .before .before .before)) (literal-form _ _ _ form) (ap (λ (n : ℕ). eqb n 1) (form-tildes head _ _ form ∙ c .before .if1 .left)) ∙ joined (c .before .before .before .before .before .before .before)
 
-pub rule-form-spec : {M : Type 1} → statement M
-rule-form-spec =
+pub well-formed-spec : {M : Type 1} → statement M
+well-formed-spec =
     tie.close
     (tie.spec
     end-of-requires
@@ -91,6 +93,6 @@ rule-form-spec =
     enum-told
     returns
     returns-2
-    add-form-fault
-    form-fault-requires
+    add-all-literals
+    all-literals-requires
     returns-3)

@@ -1,27 +1,24 @@
--- `body_entries`: every name passed is declared, and the entries of what is left, stored into what there is, are those of the whole.
+-- `all_known`: every name passed is declared, and the entries of what is left, stored into what there is, are those of the whole.
 use borrow.Author.Needs.{needs}
 use mathlib.Core.Path.{_≡_, refl, sym, ap, _∙_}
-use mathlib.Core.Bool.{Bool, not}
+use mathlib.Core.Bool.{true≢false}
 use mathlib.Core.List.{List, map}
 use Prim.Native.Nat.{ℕ, _≤_, _+_, _-_, _*_}
 use lib.ListN.{length, length-set}
 use lib.Seq.{sets}
-use Rattle.scan.specs.Text.{rest, nameOf, comma}
+use Rattle.scan.specs.Text.{rest, comma}
 use Rattle.book.specs.Limits.{maxNames}
 use Rattle.book.specs.Book.{clamp, namesIn, codeOf}
-use Rattle.reader.specs.File.{allFields, declared, _when_else_, entryFrom}
+use Rattle.reader.specs.File.{allFields, isKnown, entryFrom}
 use Rattle.reader.proofs.Fields.{fields-go, fields-stop, fields-end, not-declared, is-declared, code-is, known-small}
 use Rattle.reader.proofs.Stored.{store-field, store-none}
 use native.Mathlib.Omega.{arith}
-use Rattle.reader.proofs.body_entries.Statement.{statement}
-use Rattle.reader.proofs.body_entries.Tie as tie
+use Rattle.reader.proofs.all_known.Statement.{statement}
+use Rattle.reader.proofs.all_known.Tie as tie
 
 -- the names of the tables
 abbrev names-in : List ℕ → List ℕ → ℕ → List (List ℕ)
 names-in text lengths count = namesIn text lengths (clamp maxNames count)
-
-abbrev known : List (List ℕ) → List ℕ → Bool
-known names f = declared names (nameOf f)
 
 abbrev code : List (List ℕ) → List ℕ → ℕ
 code names f = codeOf (entryFrom names f)
@@ -29,7 +26,7 @@ code names f = codeOf (entryFrom names f)
 abbrev Inv-loop : tie.InvT-loop
 Inv-loop text lengths count entries₀ at line from k₀ p₀ entries k p =
     (p ≤ length line + 1) × (k ≤ at + p) × (length entries ≡ length entries₀)
-    × (allFields (known (names-in text lengths count)) (rest comma line p) ≡ allFields (known (names-in text lengths count)) (rest comma line from))
+    × (allFields (isKnown (names-in text lengths count)) (rest comma line p) ≡ allFields (isKnown (names-in text lengths count)) (rest comma line from))
     × (sets entries k (map (code (names-in text lengths count)) (rest comma line p)) ≡ sets entries₀ at (map (code (names-in text lengths count)) (rest comma line from)))
 
 abbrev μ-loop : tie.MeasureT-loop
@@ -69,9 +66,8 @@ returns c =
     let d = c .before .before .before .before in
     let names = names-in (a .text .now) (a .lengths .now) (a .count) in
     let unknown = not-declared names _ (sym (c .before .before .known-of .ensures) ∙ c .enum-told .given .1) in (
-      ap (λ (b : Bool). 7 when not b else 0)
-          (sym (fields-stop (known names) (a .line .now) (was .p) (d .end-of .result) (d .before .loop-test .taken) (d .end-of .ensures .0) unknown) ∙ was .inv .3),
-      λ e. absurd (omega arith),
+      sym (fields-stop (isKnown names) (a .line .now) (was .p) (d .end-of .result) (d .before .loop-test .taken) (d .end-of .ensures .0) unknown) ∙ was .inv .3,
+      λ e. absurd (true≢false (sym e)),
     )
 
 mul-put16 : tie.Need-mul-put16 Inv-loop μ-loop
@@ -118,7 +114,7 @@ loop-again c =
       omega arith,
       omega (arith, d .end-of .ensures .1),
       ap length stored ∙ simp length-set (was .inv .2),
-      sym (fields-go (known names) (a .line .now) (was .p) (d .end-of .result) (d .before .loop-test .taken) (d .end-of .ensures .0) (is-declared names _ l t entry)) ∙ was .inv .3,
+      sym (fields-go (isKnown names) (a .line .now) (was .p) (d .end-of .result) (d .before .loop-test .taken) (d .end-of .ensures .0) (is-declared names _ l t entry)) ∙ was .inv .3,
       ap (λ (x : List ℕ). sets x (was .k + 1) (map (code names) (rest comma (a .line .now) (d .end-of .result + 1)))) stored
           ∙ sym (store-field (was .entries) (was .k) (code names) (a .line .now) (was .p) (d .end-of .result) (d .before .loop-test .taken) (d .end-of .ensures .0) (2 * l + t) (code-is names _ l t entry))
           ∙ was .inv .4,
@@ -132,12 +128,12 @@ returns-2 c =
     let a = c .before .before .before .before .before .before .args in
     let was = c .before .loop in
     let names = names-in (a .text .now) (a .lengths .now) (a .count) in (
-      ap (λ (b : Bool). 7 when not b else 0) (sym (fields-end (known names) (a .line .now) (was .p) (c .loop-test .left)) ∙ was .inv .3),
+      sym (fields-end (isKnown names) (a .line .now) (was .p) (c .loop-test .left)) ∙ was .inv .3,
       λ e. sym (store-none (was .entries) (was .k) (code names) (a .line .now) (was .p) (c .loop-test .left)) ∙ was .inv .4,
     )
 
-pub body-entries-spec : {M : Type 1} → statement M
-body-entries-spec =
+pub all-known-spec : {M : Type 1} → statement M
+all-known-spec =
     tie.close
     (tie.spec
     Inv-loop
