@@ -5,7 +5,11 @@ pub mod Within
 pub mod Fields
 pub mod Stored
 pub mod Held
-pub mod Judgement
+pub mod Numbers
+pub mod Answers
+pub mod Sizes
+pub mod Progress
+pub mod Whole
 pub mod Short
 pub mod Order
 pub mod Tests

@@ -7,27 +7,19 @@ use Prim.Native.Nat.{ℕ, _≤_, _+_, _-_, _*_}
 use lib.ListN.{length, length-set}
 use lib.Seq.{sets}
 use Rattle.scan.specs.Text.{rest, comma}
-use Rattle.book.specs.Limits.{maxNames}
-use Rattle.book.specs.Book.{clamp, namesIn, codeOf}
-use Rattle.reader.specs.File.{allFields, isKnown, entryFrom}
+use Rattle.reader.specs.File.{allFields, isKnown}
+use Rattle.reader.specs.Steps.{tableNames, fieldCode}
 use Rattle.reader.proofs.Fields.{fields-go, fields-stop, fields-end, not-declared, is-declared, code-is, known-small}
 use Rattle.reader.proofs.Stored.{store-field, store-none}
 use native.Mathlib.Omega.{arith}
 use Rattle.reader.proofs.all_known.Statement.{statement}
 use Rattle.reader.proofs.all_known.Tie as tie
 
--- the names of the tables
-abbrev names-in : List ℕ → List ℕ → ℕ → List (List ℕ)
-names-in text lengths count = namesIn text lengths (clamp maxNames count)
-
-abbrev code : List (List ℕ) → List ℕ → ℕ
-code names f = codeOf (entryFrom names f)
-
 abbrev Inv-loop : tie.InvT-loop
 Inv-loop text lengths count entries₀ at line from k₀ p₀ entries k p =
     (p ≤ length line + 1) × (k ≤ at + p) × (length entries ≡ length entries₀)
-    × (allFields (isKnown (names-in text lengths count)) (rest comma line p) ≡ allFields (isKnown (names-in text lengths count)) (rest comma line from))
-    × (sets entries k (map (code (names-in text lengths count)) (rest comma line p)) ≡ sets entries₀ at (map (code (names-in text lengths count)) (rest comma line from)))
+    × (allFields (isKnown (tableNames text lengths count)) (rest comma line p) ≡ allFields (isKnown (tableNames text lengths count)) (rest comma line from))
+    × (sets entries k (map (fieldCode (tableNames text lengths count)) (rest comma line p)) ≡ sets entries₀ at (map (fieldCode (tableNames text lengths count)) (rest comma line from)))
 
 abbrev μ-loop : tie.MeasureT-loop
 μ-loop text lengths count entries₀ at line from k₀ p₀ entries k p = length line + 1 - p
@@ -64,11 +56,12 @@ returns c =
     let a = c .before .before .before .before .before .before .before .before .before .before .before .args in
     let was = c .before .before .before .before .before .before .loop in
     let d = c .before .before .before .before in
-    let names = names-in (a .text .now) (a .lengths .now) (a .count) in
-    let unknown = not-declared names _ (sym (c .before .before .known-of .ensures) ∙ c .enum-told .given .1) in (
-      sym (fields-stop (isKnown names) (a .line .now) (was .p) (d .end-of .result) (d .before .loop-test .taken) (d .end-of .ensures .0) unknown) ∙ was .inv .3,
-      λ e. absurd (true≢false (sym e)),
-    )
+    let names = tableNames (a .text .now) (a .lengths .now) (a .count) in
+    let unknown = not-declared names _ (sym (c .before .before .known-of .ensures) ∙ c .enum-told .given .1) in
+    record {
+      answer-is = sym (fields-stop (isKnown names) (a .line .now) (was .p) (d .end-of .result) (d .before .loop-test .taken) (d .end-of .ensures .0) unknown) ∙ was .inv .3;
+      entries-are = λ e. absurd (true≢false (sym e));
+    }
 
 mul-put16 : tie.Need-mul-put16 Inv-loop μ-loop
 mul-put16 c =
@@ -106,7 +99,7 @@ loop-again c =
     let was = c .before .before .before .before .before .before .before .before .before .before .before .loop in
     let d = c .before .before .before .before .before .before .before .before .before in
     let within = d .end-of .ensures .2 (d .before .loop-test .taken) in
-    let names = names-in (a .text .now) (a .lengths .now) (a .count) in
+    let names = tableNames (a .text .now) (a .lengths .now) (a .count) in
     let l = c .before .before .before .before .before .literal .given .0 .0 in
     let t = c .before .before .before .before .before .literal .given .0 .1 .0 in
     let entry = sym (c .before .before .before .before .before .before .before .known-of .ensures) ∙ c .before .before .before .before .before .literal .given .1 in
@@ -115,8 +108,8 @@ loop-again c =
       omega (arith, d .end-of .ensures .1),
       ap length stored ∙ simp length-set (was .inv .2),
       sym (fields-go (isKnown names) (a .line .now) (was .p) (d .end-of .result) (d .before .loop-test .taken) (d .end-of .ensures .0) (is-declared names _ l t entry)) ∙ was .inv .3,
-      ap (λ (x : List ℕ). sets x (was .k + 1) (map (code names) (rest comma (a .line .now) (d .end-of .result + 1)))) stored
-          ∙ sym (store-field (was .entries) (was .k) (code names) (a .line .now) (was .p) (d .end-of .result) (d .before .loop-test .taken) (d .end-of .ensures .0) (2 * l + t) (code-is names _ l t entry))
+      ap (λ (x : List ℕ). sets x (was .k + 1) (map (fieldCode names) (rest comma (a .line .now) (d .end-of .result + 1)))) stored
+          ∙ sym (store-field (was .entries) (was .k) (fieldCode names) (a .line .now) (was .p) (d .end-of .result) (d .before .loop-test .taken) (d .end-of .ensures .0) (2 * l + t) (code-is names _ l t entry))
           ∙ was .inv .4,
     )
 
@@ -127,10 +120,11 @@ returns-2 : tie.Need-returns-2 Inv-loop μ-loop
 returns-2 c =
     let a = c .before .before .before .before .before .before .args in
     let was = c .before .loop in
-    let names = names-in (a .text .now) (a .lengths .now) (a .count) in (
-      sym (fields-end (isKnown names) (a .line .now) (was .p) (c .loop-test .left)) ∙ was .inv .3,
-      λ e. sym (store-none (was .entries) (was .k) (code names) (a .line .now) (was .p) (c .loop-test .left)) ∙ was .inv .4,
-    )
+    let names = tableNames (a .text .now) (a .lengths .now) (a .count) in
+    record {
+      answer-is = sym (fields-end (isKnown names) (a .line .now) (was .p) (c .loop-test .left)) ∙ was .inv .3;
+      entries-are = λ e. sym (store-none (was .entries) (was .k) (fieldCode names) (a .line .now) (was .p) (c .loop-test .left)) ∙ was .inv .4;
+    }
 
 pub all-known-spec : {M : Type 1} → statement M
 all-known-spec =

@@ -3,8 +3,8 @@ use borrow.Author.Needs.{needs}
 use mathlib.Core.Path.{sym, ap, ap₂, _∙_}
 use Prim.Native.Nat.{ℕ, _+_, _*_}
 use Rattle.scan.proofs.Forms.{name-from}
-use Rattle.book.specs.Limits.{maxNames}
-use Rattle.book.specs.Book.{clamp, namesIn, find}
+use Rattle.book.specs.Book.{find}
+use Rattle.reader.specs.Steps.{tableNames}
 use Rattle.reader.specs.declared.Known.the-variants.{Entry}
 use Rattle.reader.proofs.Fields.{found-small, known-undeclared, known-entry}
 use Rattle.reader.proofs.known_of.Statement.{statement}
@@ -38,7 +38,7 @@ returns : tie.Need-returns
 returns c =
     let a = c .before .before .before .before .before .before .before .before .before .args in
     let m = c .before .before .before .before .before .marks-of in
-    let names = namesIn (a .text .now) (a .lengths .now) (clamp maxNames (a .count)) in
+    let names = tableNames (a .text .now) (a .lengths .now) (a .count) in
     sym (known-undeclared names (a .f .now)
     (ap (find names) (name-from (a .f .now) (m .result .tildes) (m .result .minuses) (m .ensures .0) (m .ensures .1)) ∙ sym (c .before .before .find-in .ensures) ∙ c .enum-told .given .1))
 
@@ -60,7 +60,7 @@ returns-2 c =
     let a = c .before .before .before .before .before .before .before .before .before .before .before .args in
     let m = c .before .before .before .before .before .before .before .marks-of in
     let i = c .before .before .i .given .0 .0 in
-    let names = namesIn (a .text .now) (a .lengths .now) (clamp maxNames (a .count)) in
+    let names = tableNames (a .text .now) (a .lengths .now) (a .count) in
     ap₂ (λ (x y : ℕ). Entry (2 * i + x) y) (m .ensures .1) (m .ensures .0)
     ∙ sym (known-entry names (a .f .now) i
     (ap (find names) (name-from (a .f .now) (m .result .tildes) (m .result .minuses) (m .ensures .0) (m .ensures .1)) ∙ sym (c .before .before .before .before .find-in .ensures) ∙ c .before .before .i .given .1))

@@ -8,7 +8,7 @@ use borrow.Author.Tests.{not-true, not-false}
 use Rattle.scan.specs.Text.{split, newline}
 use Rattle.reader.specs.File.{nothingYet, readLines}
 use Rattle.reader.specs.Loading.{loadedOf}
-use Rattle.reader.proofs.Judgement.{file-long, file-bytes, file-unended, file-lines, no-bytes, last-other, last-ends}
+use Rattle.reader.proofs.Whole.{file-long, file-bytes, file-unended, file-lines, no-bytes, last-other, last-ends}
 use Rattle.reader.proofs.read.Statement.{statement}
 use Rattle.reader.proofs.read.Tie as tie
 
