@@ -2,25 +2,24 @@
 use mathlib.Core.Path.{_≡_, refl, ap, _∙_}
 use mathlib.Core.List.{List, [], _∷_, _++_, append-assoc}
 use Prim.Native.Nat.{ℕ, zero, suc, _+_, _-_, _*_, _^_, _≤_, _<_}
-use native.Mathlib.Nat.{zero-add}
-use native.Mathlib.Decide.{decLt}
 use native.Mathlib.Numerals.{add-one}
 use native.Mathlib.Omega.{arith}
-use lib.ListN.{length, getD, drop, length-append, length-take, List·getD-eq-default}
+use lib.ListN.{length, getD, length-append}
 use Rattle.wfsx.specs.Sets.{members}
 use Rattle.wfsx.proofs.Members.{length-most}
 use Rattle.litset.specs.Words.{capacity, setOf}
 use Rattle.litset.specs.declared.LitSet.{LitSet}
 use Rattle.wfsx.specs.Model.{Verdict, is-true, is-false, is-undefined}
-use Rattle.book.specs.Book.{rows, clamp, nameAt, namesIn, ruleAt, rulesOf}
+use Rattle.book.specs.Book.{rows, clamp, nameAt, namesIn, rulesOf}
 use Rattle.book.specs.declared.Book.{Book}
 use Rattle.book.specs.Limits.{maxNames, maxRules}
-use Rattle.book.proofs.Rows.{rows-none, rows-first, rows-length, row-at, rows-step, rows-end}
+use Rattle.book.proofs.Rows.{rows-none, rows-first, rows-step, rows-end}
 use Rattle.book.proofs.Counts.{clamp-most}
 use Rattle.fixpoint.specs.declared.Model.{Model}
 use Rattle.litset.specs.declared.Clash.{Clash}
 use Rattle.litset.specs.declared.Clash.the-variants.{None, Name}
 use Rattle.scan.specs.Text.{comma, newline, maxLength}
+use Rattle.book.proofs.Names.{names-count, name-most, name-short, rules-counted}
 use Rattle.lister.specs.Listing.{modelWord, contradictionWord, refusedWord, verdictWord, digits, field, line, nameLine, nameLines, listingBy, verdictsBy, listingIn, refusalOf}
 use Rattle.lister.specs.Steps.{Room, Put, countsTo, verdictsEnd}
 use Rattle.lister.proofs.Stored.{room-first, Left, left-step, left-none}
@@ -70,17 +69,17 @@ module _ (b : Book) (facts : LitSet) (m : Model) {names rules putIn : ℕ} (ns :
     (fs : putIn ≡ length (members capacity (setOf (facts .words)))) where
   by-counts : (c : Clash) → m .clash ≡ c → listingIn b facts m ≡ listingBy (namesIn (b .text) (b .lengths) names) rules putIn (verdictsBy m) c
   unfolding listingIn
-  by-counts c e = rw (ns, rs, fs, e, rows-length (ruleAt (b .heads) (b .starts) (b .entries)) 0 (clamp maxRules (b .rules)))
+  by-counts c e = rw (ns, rs, fs, e, rules-counted b)
 
   pub clear-parts : m .clash ≡ None
       → listingIn b facts m ≡ field modelWord comma ++ (countsTo newline names rules putIn ++ nameLines (verdictsBy m) 0 (namesIn (b .text) (b .lengths) names))
   clear-parts e =
-      by-counts None e ∙ clear-is (namesIn (b .text) (b .lengths) names) rules putIn (verdictsBy m) ∙ rw (rows-length (nameAt (b .text) (b .lengths)) 0 names)
+      by-counts None e ∙ clear-is (namesIn (b .text) (b .lengths) names) rules putIn (verdictsBy m) ∙ rw (names-count (b .text) (b .lengths) names)
 
   pub clash-parts : (k : ℕ) → m .clash ≡ Name k
       → listingIn b facts m ≡ field contradictionWord comma ++ (countsTo comma names rules putIn ++ field (getD (namesIn (b .text) (b .lengths) names) k []) newline)
   clash-parts k e =
-      by-counts (Name k) e ∙ clash-is (namesIn (b .text) (b .lengths) names) rules putIn (verdictsBy m) k ∙ rw (rows-length (nameAt (b .text) (b .lengths)) 0 names)
+      by-counts (Name k) e ∙ clash-is (namesIn (b .text) (b .lengths) names) rules putIn (verdictsBy m) k ∙ rw (names-count (b .text) (b .lengths) names)
 
 pub refusal-is : (number at : ℕ) → refusalOf number at ≡ field refusedWord comma ++ (field (digits number) comma ++ field (digits at) newline)
 unfolding refusalOf line
@@ -99,11 +98,6 @@ verdict-most : (v : Verdict) → length (verdictWord v) ≤ 9
 verdict-most is-true = omega arith
 verdict-most is-false = omega arith
 verdict-most is-undefined = omega arith
-
-name-most : (text lengths : List ℕ) (k : ℕ) → length (nameAt text lengths k) ≤ maxLength
-name-most text lengths k =
-    let n = clamp maxLength (getD lengths k 0) in
-    rw (length-take n (drop (maxLength * k) text)) (omega (arith, clamp-most maxLength (getD lengths k 0)))
 
 counts-most : (stop names rules facts : ℕ) → names < 10 ^ 20 → rules < 10 ^ 20 → facts < 10 ^ 20 → length (countsTo stop names rules facts) ≤ 63
 counts-most stop names rules facts a b c =
@@ -141,26 +135,11 @@ lines-most v f short k zero h = rw (rows-none f k) (omega arith)
 lines-most v f short k (suc n) h =
     rw (rows-first f k n) (omega (arith, length-append (nameLine v k (f k)) (nameLines v (suc k) (rows f (suc k) n)), line-most v k (f k) (omega arith) (short k), lines-most v f short (suc k) n (omega arith)))
 
--- a name of the rows, or the empty name past them
-module _ (text lengths : List ℕ) (n k : ℕ) where
-  pub name-in : k < n → getD (rows (nameAt text lengths) 0 n) k [] ≡ nameAt text lengths k
-  name-in h = row-at (nameAt text lengths) [] 0 n k h ∙ ap (nameAt text lengths) (zero-add k)
-
-  pub name-past : n ≤ k → getD (rows (nameAt text lengths) 0 n) k [] ≡ []
-  name-past h = List·getD-eq-default (rows (nameAt text lengths) 0 n) [] (rw (rows-length (nameAt text lengths) 0 n) h)
-
-  name-short : length (getD (rows (nameAt text lengths) 0 n) k []) ≤ maxLength
-  name-short = go (decLt k n)
-    where
-      go : Dec (k < n) → length (getD (rows (nameAt text lengths) 0 n) k []) ≤ maxLength
-      go (yes h) = rw (name-in h) (name-most text lengths k)
-      go (no h) = rw (name-past (omega arith)) (omega arith)
-
 module _ (text lengths : List ℕ) (n rules facts : ℕ) (v : ℕ → Verdict) (few : n ≤ maxNames) (fit : rules < 10 ^ 20) (fit' : facts < 10 ^ 20) where
-  room-by : (c : Clash) → Room (listingBy (rows (nameAt text lengths) 0 n) rules facts v c) 0
+  room-by : (c : Clash) → Room (listingBy (namesIn text lengths n) rules facts v c) 0
   room-by None =
-      let names = rows (nameAt text lengths) 0 n in
-      let size = rows-length (nameAt text lengths) 0 n in
+      let names = namesIn text lengths n in
+      let size = names-count text lengths n in
       let head = countsTo newline (length names) rules facts in
       record {
         fits =
@@ -174,8 +153,8 @@ module _ (text lengths : List ℕ) (n rules facts : ℕ) (v : ℕ → Verdict) (
             );
       }
   room-by (Name k) =
-      let names = rows (nameAt text lengths) 0 n in
-      let size = rows-length (nameAt text lengths) 0 n in
+      let names = namesIn text lengths n in
+      let size = names-count text lengths n in
       let head = countsTo comma (length names) rules facts in
       let last = getD names k [] in
       record {
@@ -195,7 +174,7 @@ pub listing-room : (b : Book) (facts : LitSet) (m : Model) → Room (listingIn b
 unfolding listingIn
 listing-room b facts m =
     room-by (b .text) (b .lengths) (clamp maxNames (b .names)) (length (rulesOf b)) (length (members capacity (setOf (facts .words)))) (verdictsBy m)
-    (clamp-most maxNames (b .names)) (omega (arith, rows-length (ruleAt (b .heads) (b .starts) (b .entries)) 0 (clamp maxRules (b .rules)), clamp-most maxRules (b .rules)))
+    (clamp-most maxNames (b .names)) (omega (arith, rules-counted b, clamp-most maxRules (b .rules)))
     (omega (arith, length-most (setOf (facts .words)) 0 capacity)) (m .clash)
 
 pub refusal-room : (number at : ℕ) → number < 10 ^ 20 → at < 10 ^ 20 → Room (refusalOf number at) 0

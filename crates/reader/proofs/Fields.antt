@@ -11,15 +11,13 @@ use Rattle.scan.specs.Text.{lenTo, rest, tildes, minuses, nameOf, comma, fields
 use Rattle.scan.proofs.Places.{rest-step, rest-none, rest-here}
 use Rattle.scan.proofs.Forms.{lead-most}
 use Rattle.book.specs.Limits.{maxNames}
-use Rattle.book.specs.Book.{clamp, nameAt, find, codeOf}
+use Rattle.book.specs.Book.{find, codeOf}
 use Rattle.book.specs.declared.Found.{Found}
 use Rattle.book.specs.declared.Found.the-variants.{Nothing, At}
-use Rattle.book.proofs.Counts.{clamp-most}
-use Rattle.book.proofs.Rows.{rows-length}
 use Rattle.scan.specs.declared.Word.the-variants.{Rule as RuleWord}
+use Rattle.book.proofs.Names.{found-small}
 use Rattle.reader.specs.File.{allFields, declared, isFound, numberIn, literalNumber, entryFrom, isLiteral, hasTilde, malformed}
 use Rattle.reader.specs.Steps.{knownBy, knownOf, tableNames, FieldsKnown}
-use Rattle.reader.proofs.Within.{found-below}
 use Rattle.reader.specs.declared.Known.{Known}
 use Rattle.reader.specs.declared.Known.the-variants.{Undeclared, Entry}
 
@@ -66,14 +64,6 @@ module _ (h : List ℕ) (ls : List (List ℕ)) where
   head-formed literal plain = rw (literal, plain, Bool·not-not (allFields isLiteral ls))
 
 -- ---- a name looked up
-
-find-below : (names : List (List ℕ)) (n : List ℕ) (i : ℕ) → find names n ≡ At i → i < length names
-find-below names n i e = omega (arith, found-below 0 n names (ap isFound e), ap numberIn e)
-
--- a number that a table of names gives lies below the most names
-pub found-small : (text lengths : List ℕ) (count : ℕ) (n : List ℕ) (i : ℕ) → find (tableNames text lengths count) n ≡ At i → i < maxNames
-found-small text lengths count n i e =
-    omega (arith, find-below (tableNames text lengths count) n i e, rows-length (nameAt text lengths) 0 (clamp maxNames count), clamp-most maxNames count)
 
 module _ (names : List (List ℕ)) (f : List ℕ) where
   pub known-undeclared : find names (nameOf f) ≡ Nothing → knownOf names f ≡ Undeclared

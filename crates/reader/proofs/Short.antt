@@ -11,7 +11,7 @@ use lib.Dec.{eqb}
 use lib.ListN.{length, take, drop, length-append, length-map, length-drop, length-take}
 use borrow.Author.Tests.{eqb-true, eqb-false, not-false}
 use Rattle.wfsx.specs.Program.{Rule}
-use Rattle.truth.proofs.Truth.{and-l, and-r}
+use Rattle.truth.proofs.Truth.{and-l, and-r, neither}
 use Rattle.scan.specs.Text.{onto, split, fields, isName, wordOf, tildes, minuses, nameOf, nameWord, ruleWord, endWord, comma, newline, maxLength}
 use Rattle.scan.specs.declared.Word.{Word}
 use Rattle.scan.specs.declared.Word.the-variants.{Name, Rule as RuleWord, End, Unknown}
@@ -21,7 +21,7 @@ use Rattle.scan.proofs.Words.{IsWord, first-is}
 use Rattle.scan.proofs.Forms.{lead-most}
 use Rattle.reader.specs.File.{Content, nothingYet, bodyLiterals, allFields, isLiteral, hasTilde, wrongFields, malformed, lineFault, entryFrom, ruleFrom, extended, withLine, accepted, maxBytes, linesOf, readFile}
 use Rattle.reader.specs.Conditions.{saidBy}
-use Rattle.reader.proofs.Faults.{Passes, line-passes, neither}
+use Rattle.reader.proofs.Faults.{Passes, line-passes}
 use Rattle.reader.proofs.Lines.{Faultless, file-read}
 use Rattle.reader.proofs.Within.{Within, within-nothing, within-lines, literals-append}
 

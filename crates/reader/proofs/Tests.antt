@@ -8,9 +8,9 @@ use Prim.Native.Nat.{ℕ, suc, _+_, _-_, _≤_, _<_, suc-le-suc}
 use native.Mathlib.Omega.{arith}
 use lib.Dec.{eqb, leb, ltb}
 use lib.ListN.{length, getD, drop}
-use borrow.Author.Tests.{ltb-true, lt-ltb, leb-true, le-leb, eqb-true, eq-eqb, ne-eqb, not-true, not-false}
+use borrow.Author.Tests.{ltb-true, lt-ltb, leb-true, le-leb, eqb-true, eq-eqb, ne-eqb, not-false}
 use Rattle.wfsx.specs.Sets.{_isIn_}
-use Rattle.truth.proofs.Truth.{clash, refuted, not-intro, and-l, and-r, and-intro, or-elim, or-l, or-r}
+use Rattle.truth.proofs.Truth.{clash, refuted, fails, or-is, and-is, not-is, leb-is, eqb-is, neither}
 use Rattle.scan.specs.Text.{isText, classOf, isLetter, inName, allBytes, isName, lead, tildes, nameOf, nameWord, ruleWord, wordOf, newline}
 use Rattle.scan.specs.declared.Class.the-variants.{Letter, Digit, Underscore, Other}
 use Rattle.scan.specs.declared.Word.{Word}
@@ -22,28 +22,7 @@ use Rattle.book.specs.Book.{sameName, findFrom}
 use Rattle.book.proofs.Lookup.{same-decides, find-none, find-first, find-later}
 use Rattle.reader.specs.File.{Content, bodyLiterals, allFields, isLiteral, hasTilde, isFound, declared, wrongFields, headTilde, malformed, declaredBefore, usesUndeclared, beyondTable, maxBytes, unended, isKnown}
 use Rattle.reader.specs.Conditions.{LetterByte, NameByte, NameText, Optional, LiteralText, TooLong, StrangeByte, LastLineOpen, SomeField, FieldsWrong, FormWrong, Declared, NameTaken, NameMissing, TableFull}
-use Rattle.reader.proofs.Faults.{neither, each-field, each-passes, all-pass, fails-where, no-entries}
-
--- ---- decided statements
-
--- where a test decides P, its failure is that P does not hold
-pub fails : (b : Bool) {P : Type 0} → ((b ≡ true) ↔ P) → (b ≡ false) ↔ (P → ⊥)
-fails b d = (λ e p. clash (d .1 p) e, λ n. refuted (λ e. n (d .0 e)))
-
-or-is : (a b : Bool) {P Q : Type 0} → ((a ≡ true) ↔ P) → ((b ≡ true) ↔ Q) → (a || b ≡ true) ↔ (P ⊎ Q)
-or-is a b p q = (λ e. ⊎-elim (λ h. inl (p .0 h)) (λ h. inr (q .0 h)) (or-elim a b e), ⊎-elim (λ h. or-l a b (p .1 h)) (λ h. or-r a b (q .1 h)))
-
-and-is : (a b : Bool) {P Q : Type 0} → ((a ≡ true) ↔ P) → ((b ≡ true) ↔ Q) → (a && b ≡ true) ↔ (P × Q)
-and-is a b p q = (λ e. (p .0 (and-l a b e), q .0 (and-r a b e)), λ h. and-intro a b (p .1 (h .0)) (q .1 (h .1)))
-
-not-is : (b : Bool) {P : Type 0} → ((b ≡ true) ↔ P) → (not b ≡ true) ↔ (P → ⊥)
-not-is b d = (λ e. fails b d .0 (not-true b e), λ n. not-intro (fails b d .1 n))
-
-leb-is : (a b : ℕ) → (leb a b ≡ true) ↔ (a ≤ b)
-leb-is a b = (leb-true a b, le-leb a b)
-
-eqb-is : (a b : ℕ) → (eqb a b ≡ true) ↔ (a ≡ b)
-eqb-is a b = (eqb-true a b, eq-eqb a b)
+use Rattle.reader.proofs.Faults.{each-field, each-passes, all-pass, fails-where, no-entries}
 
 -- ---- numbers 1 to 3
 

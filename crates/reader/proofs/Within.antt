@@ -11,18 +11,20 @@ use lib.ListN.{length, drop, length-append, length-map}
 use borrow.Author.Tests.{leb-true, leb-false, ltb-false, eqb-true, not-false}
 use Rattle.wfsx.specs.Sets.{_isIn_}
 use Rattle.wfsx.specs.Program.{Entry, positive, default, Rule}
-use Rattle.truth.proofs.Truth.{and-r}
-use Rattle.scan.specs.Text.{fields, isName, wordOf, tildes, nameOf}
+use Rattle.truth.proofs.Truth.{and-r, neither}
+use Rattle.scan.specs.Text.{fields, isName, wordOf, tildes, nameOf, minuses}
 use Rattle.scan.specs.declared.Word.{Word}
 use Rattle.scan.specs.declared.Word.the-variants.{Name, Rule as RuleWord, End, Unknown}
 use Rattle.scan.proofs.Forms.{lead-most}
 use Rattle.book.specs.Limits.{maxNames, maxRules, maxEntries, maxBody}
-use Rattle.book.specs.Book.{sameName, findFrom}
-use Rattle.book.proofs.Lookup.{find-none, find-first, find-later}
+use Rattle.book.specs.Book.{find}
+use Rattle.book.proofs.Lookup.{found-below}
 use Rattle.book.proofs.Back.{literalIn}
+use Rattle.book.specs.declared.Found.{Found}
+use Rattle.book.specs.declared.Found.the-variants.{Nothing, At}
 use Rattle.reader.specs.File.{Content, nothingYet, bodyLiterals, allFields, isFound, declared, wrongFields, malformed, usesUndeclared, beyondTable, lineFault, numberIn, literalNumber, entryFrom, hasTilde, ruleFrom, extended, withLine, accepted, linesOf, readFile}
 use Rattle.reader.specs.Conditions.{saidBy}
-use Rattle.reader.proofs.Faults.{Passes, line-passes, neither, each-field}
+use Rattle.reader.proofs.Faults.{Passes, line-passes, each-field}
 use Rattle.reader.proofs.Lines.{Faultless, file-read}
 
 pub record Within (d : Content) : Type 0 where
@@ -36,19 +38,13 @@ pub record Within (d : Content) : Type 0 where
 
 -- ---- names, literals and rules one by one
 
--- a name that is found has a number below the count of names
-pub found-below : (k : ℕ) (n : List ℕ) (names : List (List ℕ)) → isFound (findFrom k n names) ≡ true → numberIn (findFrom k n names) < k + length names
-found-below k n [] e = absurd (true≢false (sym (rw (find-none k n) at e)))
-found-below k n (m ∷ ms) e = go (found-below (suc k) n ms) (sameName m n) refl e
-  where
-    go : (isFound (findFrom (suc k) n ms) ≡ true → numberIn (findFrom (suc k) n ms) < suc k + length ms) → (t : Bool) → sameName m n ≡ t
-        → isFound (findFrom k n (m ∷ ms)) ≡ true → numberIn (findFrom k n (m ∷ ms)) < k + suc (length ms)
-    go rest true p = rw (find-first k n m ms p) (λ h. omega arith)
-    go rest false p = rw (find-later k n m ms p) (λ h. omega (arith, rest h))
-
 pub literal-below : (names : List (List ℕ)) (f : List ℕ) → declared names (nameOf f) ≡ true → literalNumber names f < 2 * length names
 unfolding literalNumber
-literal-below names f e = omega (arith, found-below 0 (nameOf f) names e, lead-most 45 (drop (tildes f) f))
+literal-below names f e = go (find names (nameOf f)) refl e
+  where
+    go : (x : Found) → find names (nameOf f) ≡ x → isFound x ≡ true → 2 * numberIn (find names (nameOf f)) + minuses f < 2 * length names
+    go Nothing q t = absurd (true≢false (sym t))
+    go (At i) q t = omega (arith, ap numberIn q, found-below 0 (nameOf f) names i q, lead-most 45 (drop (tildes f) f))
 
 entry-literal : (names : List (List ℕ)) (f : List ℕ) → literalIn (entryFrom names f) ≡ literalNumber names f
 unfolding entryFrom

@@ -7,9 +7,10 @@ use Rattle.book.specs.Book.{find}
 use mathlib.Core.List.{List}
 use Rattle.book.specs.Limits.{maxNames}
 use Rattle.scan.specs.Text.{nameOf}
+use Rattle.book.proofs.Names.{found-small}
 use Rattle.reader.specs.Steps.{tableNames}
 use Rattle.reader.specs.declared.Known.the-variants.{Entry}
-use Rattle.reader.proofs.Fields.{found-small, known-undeclared, known-entry}
+use Rattle.reader.proofs.Fields.{known-undeclared, known-entry}
 use Rattle.reader.proofs.known_of.Statement.{statement}
 use Rattle.reader.proofs.known_of.Tie as tie
 
