@@ -107,7 +107,8 @@ fn put_name_line<'a>(
     model: Model,
 ) -> usize
     requires { ⌜ Room (nameLine (verdictsBy model) k (nameAt (now text) (now lengths) k)) at × (k < maxNames) ⌝ }
-    ensures { λ r. ⌜ Put (nameLine (verdictsBy model) k (nameAt (now (text .entry)) (now (lengths .entry)) k)) at (now (t .entry)) (now (t .exit)) r ⌝ }
+    ensures { λ r. ⌜ Put (nameLine (verdictsBy model) k (nameAt (now (text .entry)) (now (lengths .entry)) k))
+        at (now (t .entry)) (now (t .exit)) r ⌝ }
 {
     let p = put_number(t, at, k, b',');
     let q = put_word(t, p, book::name_at(text, lengths, k), b',');
@@ -124,7 +125,8 @@ fn put_name_lines<'a>(
     model: Model,
 ) -> usize
     requires { ⌜ Room (nameLines (verdictsBy model) 0 (namesIn (now text) (now lengths) count)) at × (count ≤ maxNames) ⌝ }
-    ensures { λ r. ⌜ Put (nameLines (verdictsBy model) 0 (namesIn (now (text .entry)) (now (lengths .entry)) count)) at (now (t .entry)) (now (t .exit)) r ⌝ }
+    ensures { λ r. ⌜ Put (nameLines (verdictsBy model) 0 (namesIn (now (text .entry)) (now (lengths .entry)) count))
+        at (now (t .entry)) (now (t .exit)) r ⌝ }
 {
     let mut p = at;
     let mut k = 0;
@@ -145,7 +147,8 @@ fn put_name_end<'a>(
     k: usize,
 ) -> usize
     requires { ⌜ Room (field (getD (namesIn (now text) (now lengths) count) k []) newline) at ⌝ }
-    ensures { λ r. ⌜ Put (field (getD (namesIn (now (text .entry)) (now (lengths .entry)) count) k []) newline) at (now (t .entry)) (now (t .exit)) r ⌝ }
+    ensures { λ r. ⌜ Put (field (getD (namesIn (now (text .entry)) (now (lengths .entry)) count) k []) newline)
+        at (now (t .entry)) (now (t .exit)) r ⌝ }
 {
     if k < count {
         return put_word(t, at, book::name_at(text, lengths, k), b'\n');

@@ -102,7 +102,8 @@ pub fn all_text(s: &[u8]) -> bool
 
 // The place of the first `stop` at or after `from`, or the end; a place past the end stays.
 pub fn end_of(s: &[u8], from: usize, stop: u8) -> usize
-    ensures { λ r. ⌜ (r ≡ from + lenTo stop (drop from (now (s .entry)))) × (from ≤ r) × (from ≤ length (now (s .entry)) → r ≤ length (now (s .entry))) ⌝ }
+    ensures { λ r. ⌜ (r ≡ from + lenTo stop (drop from (now (s .entry)))) × (from ≤ r)
+        × (from ≤ length (now (s .entry)) → r ≤ length (now (s .entry))) ⌝ }
 {
     let mut i = from;
     while i < s.len() {
@@ -177,7 +178,8 @@ pub struct Marks {
 }
 
 pub fn marks_of(f: &[u8]) -> Marks
-    ensures { λ r. ⌜ (r .tildes ≡ tildes (now (f .entry))) × (r .minuses ≡ minuses (now (f .entry))) × (r .tildes + r .minuses ≤ length (now (f .entry))) ⌝ }
+    ensures { λ r. ⌜ (r .tildes ≡ tildes (now (f .entry))) × (r .minuses ≡ minuses (now (f .entry)))
+        × (r .tildes + r .minuses ≤ length (now (f .entry))) ⌝ }
 {
     let a = skip(f, 0, b'~');
     let b = skip(f, a, b'-');
