@@ -1,9 +1,10 @@
 -- Laws of the reader's definitions.
 pub mod Faults
 pub mod Lines
+pub mod FieldCounts
 pub mod Within
 pub mod Fields
-pub mod Stored
+pub mod Entries
 pub mod Held
 pub mod Numbers
 pub mod Answers

@@ -1,65 +1,21 @@
 -- The number of a line, by the tests in their order: of a line with any first word, of one that declares a name, of one that gives a rule, and of `end`.
 -- The counts tell how much the lines before have said.
-use mathlib.Core.Path.{_≡_, refl, sym, _∙_}
-use mathlib.Core.Bool.{true, false, or-true, not, _&&_, Bool·not-not}
+use mathlib.Core.Path.{_≡_, sym, _∙_}
+use mathlib.Core.Bool.{true, false, or-true}
 use mathlib.Core.List.{List, [], _∷_}
 use Prim.Native.Nat.{ℕ, _+_, _-_, _≤_, _<_}
 use native.Mathlib.Omega.{arith}
-use lib.Dec.{leb, eqb}
+use lib.Dec.{leb}
 use lib.ListN.{length}
-use borrow.Author.Tests.{le-leb, lt-leb, lt-ltb, le-ltb, leb-true, eqb-true, eq-eqb, not-false}
+use borrow.Author.Tests.{le-leb, lt-leb, lt-ltb, le-ltb}
 use Rattle.scan.specs.Text.{isName}
 use Rattle.scan.specs.declared.Word.{Word}
-use Rattle.scan.specs.declared.Word.the-variants.{Name, Rule as RuleWord, End, Unknown}
+use Rattle.scan.specs.declared.Word.the-variants.{Name, Rule as RuleWord, End}
 use Rattle.book.specs.Limits.{maxNames, maxRules, maxEntries, maxBody}
-use Rattle.truth.proofs.Truth.{same-test, and-l, and-r}
+use Rattle.reader.proofs.FieldCounts.{rule-right}
 use Rattle.reader.specs.File.{Content, bodyLiterals, allFields, declared, isKnown, wrongFields, malformed, declaredBefore, usesUndeclared, beyondTable, faultOf}
 use Rattle.reader.specs.Steps.{Counted}
 use Rattle.reader.specs.declared.Counts.{Counts}
-
--- ---- the count of fields, of which `others` are those behind the first
-
-module _ (others : List (List ℕ)) (n : ℕ) (size : n ≡ length others + 1) where
-  one-less : (k : ℕ) → eqb n (k + 1) ≡ eqb (length others) k
-  one-less k =
-      same-test (λ e. let h = eqb-true n (k + 1) e in eq-eqb (length others) k (omega arith)) (λ e. let h = eqb-true (length others) k e in eq-eqb n (k + 1) (omega arith))
-
-  pub name-count : eqb n 2 ≡ not (wrongFields Name others)
-  unfolding wrongFields
-  name-count = one-less 1 ∙ sym (Bool·not-not (eqb (length others) 1))
-
-  pub rule-count : 2 ≤ n → leb n (maxBody + 2) ≡ not (wrongFields RuleWord others)
-  unfolding wrongFields
-  rule-count h =
-      same-test (λ e. let l = leb-true n (maxBody + 2) e in le-leb (length others) (maxBody + 1) (omega arith)) (λ e. let l = leb-true (length others) (maxBody + 1) e in le-leb n (maxBody + 2) (omega arith))
-      ∙ rw (le-leb 1 (length others) (omega arith), Bool·not-not (leb (length others) (maxBody + 1)))
-
-  pub rule-short : n < 2 → leb 2 n ≡ not (wrongFields RuleWord others)
-  unfolding wrongFields
-  rule-short h = rw (lt-leb 2 n h, lt-leb 1 (length others) (omega arith))
-
-  pub end-count : eqb n 1 ≡ not (wrongFields End others)
-  unfolding wrongFields
-  end-count = one-less 0 ∙ sym (Bool·not-not (eqb (length others) 0))
-
-pub unknown-count : (others : List (List ℕ)) → false ≡ not (wrongFields Unknown others)
-unfolding wrongFields
-unknown-count others = refl
-
--- a line that is not refused by 4 has at least so many fields behind the first, and no more
-pub name-fields : (others : List (List ℕ)) → wrongFields Name others ≡ false → length others ≡ 1
-unfolding wrongFields
-name-fields others e = eqb-true (length others) 1 (not-false (eqb (length others) 1) e)
-
-pub rule-fields : (others : List (List ℕ)) → wrongFields RuleWord others ≡ false → (1 ≤ length others) × (length others ≤ maxBody + 1)
-unfolding wrongFields
-rule-fields others e =
-    let some = leb 1 (length others) in
-    let few = leb (length others) (maxBody + 1) in
-    let both = not-false (some && few) e in
-    (leb-true 1 (length others) (and-l some few both), leb-true (length others) (maxBody + 1) (and-r some few both))
-
--- ---- the tests in their order
 
 module _ (d : Content) (w : Word) (others : List (List ℕ)) where
   pub fault-ended : d .ended ≡ true → faultOf d w others ≡ 9
@@ -96,8 +52,7 @@ module _ {d : Content} {t : Counts} (c : Counted d t) (going : t .ended ≡ fals
   -- a head and n body literals
   module _ (fs : List (List ℕ)) (n : ℕ) (size : n + 1 ≡ length fs) (few : n ≤ maxBody) where
     right : wrongFields RuleWord fs ≡ false
-    unfolding wrongFields
-    right = rw (le-leb 1 (length fs) (omega arith), le-leb (length fs) (maxBody + 1) (omega arith))
+    right = rule-right fs (omega arith) (omega arith)
 
     pub rule-malformed : malformed RuleWord fs ≡ true → faultOf d RuleWord fs ≡ 5
     unfolding faultOf

@@ -2,16 +2,16 @@
 -- most 6 bytes besides its name where it is a name's, 7 besides its head's name and 3 besides the name of each body literal where it is a rule's, and 4
 -- where it is `end`; and the tables bound how many there are of each.
 use mathlib.Core.Path.{_≡_, refl, ap, _∙_}
-use mathlib.Core.Bool.{Bool, true, false, not, cond, true≢false}
+use mathlib.Core.Bool.{Bool, true, false, not, cond}
 use mathlib.Core.List.{List, [], _∷_}
 use Prim.Native.Nat.{ℕ, zero, suc, _+_, _-_, _*_, _≤_, _<_, suc-le-suc}
 use native.Mathlib.Omega.{arith}
 use native.Mathlib.Nat.{mul-suc}
 use lib.Dec.{eqb}
 use lib.ListN.{length, take, drop, length-append, length-map, length-drop, length-take}
-use borrow.Author.Tests.{eqb-true, eqb-false, not-false}
+use borrow.Author.Tests.{eqb-false, not-false}
 use Rattle.wfsx.specs.Program.{Rule}
-use Rattle.truth.proofs.Truth.{and-l, and-r, neither}
+use Rattle.truth.proofs.Truth.{and-l, and-r, neither, clash}
 use Rattle.scan.specs.Text.{onto, split, fields, isName, wordOf, tildes, minuses, nameOf, nameWord, ruleWord, endWord, comma, newline, maxLength}
 use Rattle.scan.specs.declared.Word.{Word}
 use Rattle.scan.specs.declared.Word.the-variants.{Name, Rule as RuleWord, End, Unknown}
@@ -19,7 +19,8 @@ use Rattle.scan.proofs.Places.{split-none, split-stop, split-byte, split-some}
 use Rattle.scan.proofs.Bytes.{name-fits}
 use Rattle.scan.proofs.Words.{IsWord, first-is}
 use Rattle.scan.proofs.Forms.{lead-most}
-use Rattle.reader.specs.File.{Content, nothingYet, bodyLiterals, allFields, isLiteral, hasTilde, wrongFields, malformed, lineFault, entryFrom, ruleFrom, extended, withLine, accepted, maxBytes, linesOf, readFile}
+use Rattle.reader.proofs.FieldCounts.{name-fields, rule-fields, end-fields, unknown-wrong}
+use Rattle.reader.specs.File.{Content, nothingYet, bodyLiterals, allFields, isLiteral, hasTilde, malformed, lineFault, entryFrom, ruleFrom, extended, withLine, accepted, maxBytes, linesOf, readFile}
 use Rattle.reader.specs.Conditions.{saidBy}
 use Rattle.reader.proofs.Faults.{Passes, line-passes}
 use Rattle.reader.proofs.Lines.{Faultless, file-read}
@@ -81,15 +82,15 @@ weight d = (maxLength + 6) * length (d .names) + (maxLength + 7) * length (d .ru
 
 module _ (d : Content) (first : List ℕ) where
   weight-name : (others : List (List ℕ)) → first ≡ nameWord → Passes d Name others → weight d + byteCount (first ∷ others) ≤ weight (extended d Name others)
-  unfolding extended wrongFields malformed byteCount weight
+  unfolding extended malformed byteCount weight
   weight-name others e c =
-      let one : length others ≡ 1 = eqb-true (length others) 1 (not-false (eqb (length others) 1) (c .right-fields)) in
+      let one = name-fields others (c .right-fields) in
       let short = fields-total isName (maxLength + 1) (λ x h. suc-le-suc (name-fits x h .1)) others (not-false (allFields isName others) (c .well-formed)) in
       omega (arith, ap length e, length-append (d .names) others)
 
   weight-rule : (others : List (List ℕ)) → first ≡ ruleWord → Passes d RuleWord others → weight d + byteCount (first ∷ others) ≤ weight (extended d RuleWord others)
-  unfolding extended wrongFields malformed byteCount weight allFields bodyLiterals
-  weight-rule [] e c = absurd (true≢false (c .right-fields))
+  unfolding extended malformed byteCount weight allFields bodyLiterals
+  weight-rule [] e c = let some = rule-fields [] (c .right-fields) .0 in absurd (omega arith)
   weight-rule (h ∷ body) e c =
       let forms = neither (hasTilde h) (not (allFields isLiteral (h ∷ body))) (c .well-formed) in
       let all = not-false (allFields isLiteral (h ∷ body)) (forms .1) in
@@ -99,16 +100,14 @@ module _ (d : Content) (first : List ℕ) where
       omega (arith, ap length e, length-append (d .rules) new, literals-append (d .rules) new, length-map body (entryFrom (d .names)))
 
   weight-end : (others : List (List ℕ)) → first ≡ endWord → Passes d End others → weight d + byteCount (first ∷ others) ≤ weight (extended d End others)
-  unfolding extended wrongFields byteCount weight
-  weight-end [] e c = rw (c .not-ended) (omega (arith, ap length e))
-  weight-end (x ∷ xs) e c = let none = eqb-true (suc (length xs)) 0 (not-false (eqb (suc (length xs)) 0) (c .right-fields)) in absurd (omega arith)
+  unfolding extended byteCount weight
+  weight-end others e c = rw (end-fields others (c .right-fields), c .not-ended) (omega (arith, ap length e))
 
   weight-word : (w : Word) (others : List (List ℕ)) → IsWord w first → Passes d w others → weight d + byteCount (first ∷ others) ≤ weight (extended d w others)
-  unfolding wrongFields
   weight-word Name others e c = weight-name others e c
   weight-word RuleWord others e c = weight-rule others e c
   weight-word End others e c = weight-end others e c
-  weight-word Unknown others e c = absurd (true≢false (c .right-fields))
+  weight-word Unknown others e c = absurd (clash (unknown-wrong others) (c .right-fields))
 
 weight-fields : (d : Content) (fs : List (List ℕ)) → lineFault d fs ≡ 0 → weight d + byteCount fs ≤ weight (withLine d fs)
 unfolding lineFault withLine

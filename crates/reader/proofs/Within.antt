@@ -2,16 +2,16 @@
 -- adds. So an accepted file is within them too.
 use mathlib.Core.Path.{_≡_, refl, sym, ap, _∙_, subst}
 use mathlib.Core.Logic.{⊎-elim}
-use mathlib.Core.Bool.{Bool, true, false, cond, _&&_, true≢false}
+use mathlib.Core.Bool.{Bool, true, false, cond, true≢false}
 use mathlib.Core.List.{List, [], _∷_, _++_, map, List·Memᴰ·head, List·Memᴰ·tail, List·Memᴰ·not-nil, List·Memᴰ·append-cases, List·Memᴰ·eq-of-singleton, Memᴰ·of-map}
 use Prim.Native.Nat.{ℕ, suc, _+_, _-_, _*_, _≤_, _<_}
 use native.Mathlib.Omega.{arith}
-use lib.Dec.{eqb, leb, ltb}
+use lib.Dec.{leb, ltb}
 use lib.ListN.{length, drop, length-append, length-map}
-use borrow.Author.Tests.{leb-true, leb-false, ltb-false, eqb-true, not-false}
+use borrow.Author.Tests.{leb-false, ltb-false, not-false}
 use Rattle.wfsx.specs.Sets.{_isIn_}
 use Rattle.wfsx.specs.Program.{Entry, positive, default, Rule}
-use Rattle.truth.proofs.Truth.{and-r, neither}
+use Rattle.truth.proofs.Truth.{neither}
 use Rattle.scan.specs.Text.{fields, isName, wordOf, tildes, nameOf, minuses}
 use Rattle.scan.specs.declared.Word.{Word}
 use Rattle.scan.specs.declared.Word.the-variants.{Name, Rule as RuleWord, End, Unknown}
@@ -22,7 +22,8 @@ use Rattle.book.proofs.Lookup.{found-below}
 use Rattle.book.proofs.Back.{literalIn}
 use Rattle.book.specs.declared.Found.{Found}
 use Rattle.book.specs.declared.Found.the-variants.{Nothing, At}
-use Rattle.reader.specs.File.{Content, nothingYet, bodyLiterals, allFields, isFound, declared, wrongFields, malformed, usesUndeclared, beyondTable, lineFault, numberIn, literalNumber, entryFrom, hasTilde, ruleFrom, extended, withLine, accepted, linesOf, readFile}
+use Rattle.reader.proofs.FieldCounts.{name-fields, rule-fields}
+use Rattle.reader.specs.File.{Content, nothingYet, bodyLiterals, allFields, isFound, declared, malformed, usesUndeclared, beyondTable, lineFault, numberIn, literalNumber, entryFrom, hasTilde, ruleFrom, extended, withLine, accepted, linesOf, readFile}
 use Rattle.reader.specs.Conditions.{saidBy}
 use Rattle.reader.proofs.Faults.{Passes, line-passes, each-field}
 use Rattle.reader.proofs.Lines.{Faultless, file-read}
@@ -79,9 +80,9 @@ one-more P {l} {x} f p y m = ⊎-elim (f y) (λ i. subst P (sym (List·Memᴰ·e
 
 module _ (d : Content) (w : Within d) where
   within-name : (others : List (List ℕ)) → Passes d Name others → Within (extended d Name others)
-  unfolding extended wrongFields malformed beyondTable
+  unfolding extended malformed beyondTable
   within-name others c =
-      let one : length others ≡ 1 = eqb-true (length others) 1 (not-false (eqb (length others) 1) (c .right-fields)) in
+      let one = name-fields others (c .right-fields) in
       let room : length (d .names) < maxNames = leb-false maxNames (length (d .names)) (c .in-table) in
       let named : allFields isName others ≡ true = not-false (allFields isName others) (c .well-formed) in
       let grown : length (d .names ++ others) ≡ length (d .names) + 1 = length-append (d .names) others ∙ ap (λ (k : ℕ). length (d .names) + k) one in
@@ -96,12 +97,10 @@ module _ (d : Content) (w : Within d) where
       }
 
   within-rule : (others : List (List ℕ)) → Passes d RuleWord others → Within (extended d RuleWord others)
-  unfolding extended wrongFields beyondTable usesUndeclared bodyLiterals
-  within-rule [] c = absurd (true≢false (c .right-fields))
+  unfolding extended beyondTable usesUndeclared bodyLiterals
+  within-rule [] c = let some = rule-fields [] (c .right-fields) .0 in absurd (omega arith)
   within-rule (h ∷ body) c =
-      let some = leb 1 (suc (length body)) in
-      let most = leb (suc (length body)) (maxBody + 1) in
-      let few : suc (length body) ≤ maxBody + 1 = leb-true (suc (length body)) (maxBody + 1) (and-r some most (not-false (some && most) (c .right-fields))) in
+      let few = rule-fields (h ∷ body) (c .right-fields) .1 in
       let full = leb maxRules (length (d .rules)) in
       let long = ltb maxEntries (bodyLiterals (d .rules) + (suc (length body) - 1)) in
       let room : length (d .rules) < maxRules = leb-false maxRules (length (d .rules)) (neither full long (c .in-table) .0) in

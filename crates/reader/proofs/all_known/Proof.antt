@@ -11,7 +11,7 @@ use Rattle.book.specs.Limits.{maxNames}
 use Rattle.reader.specs.File.{allFields, isKnown}
 use Rattle.reader.specs.Steps.{tableNames, fieldCode}
 use Rattle.reader.proofs.Fields.{fields-go, fields-stop, fields-end, not-declared, is-declared, code-is, known-small}
-use Rattle.reader.proofs.Stored.{store-field, store-none}
+use Rattle.reader.proofs.Entries.{store-field, store-none}
 use native.Mathlib.Omega.{arith}
 use Rattle.reader.proofs.all_known.Statement.{statement}
 use Rattle.reader.proofs.all_known.Tie as tie

@@ -12,10 +12,11 @@ use Rattle.scan.specs.declared.Word.{Word}
 use Rattle.scan.specs.declared.Word.the-variants.{Name, Rule as RuleWord, Unknown}
 use Rattle.scan.proofs.Places.{split-first, split-one, rest-part, rest-within}
 use Rattle.book.specs.Limits.{maxBody}
+use Rattle.reader.proofs.FieldCounts.{name-fields, rule-fields, unknown-wrong}
 use Rattle.reader.specs.File.{Content, wrongFields}
 use Rattle.reader.specs.Steps.{Step, lineStep, wordStep}
 use Rattle.reader.proofs.Fields.{first-field}
-use Rattle.reader.proofs.Numbers.{fault-ended, fault-fields, not-ended, end-fine, name-fields, rule-fields, unknown-count}
+use Rattle.reader.proofs.Numbers.{fault-ended, fault-fields, not-ended, end-fine}
 use Rattle.reader.proofs.Held.{end-held}
 use Rattle.reader.proofs.Answers.{by-word, line-fault, name-read, end-read, read-as}
 use Rattle.reader.proofs.judge.Statement.{statement}
@@ -231,7 +232,7 @@ returns-6 : tie.Need-returns-6
 returns-6 c =
     let counts = c .before .before in
     let end = at-end (counts .before) in
-    let wrong = not-false _ (sym (unknown-count (others end))) in
+    let wrong = unknown-wrong (others end) in
     λ d h. read-as (line-fault (wordStep d Unknown (others end)) (fault-fields d Unknown (others end) (not-ended (h .counted) (end .before .if1 .left)) wrong) (λ z. omega arith)) (step (counts .before .before) (c .enum-told4 .given .1) d)
 
 pub judge-spec : {M : Type 1} → statement M

@@ -6,7 +6,7 @@ use mathlib.Core.List.{List}
 use Prim.Native.Nat.{ℕ}
 use Rattle.scan.specs.declared.Word.{Word}
 use Rattle.reader.specs.File.{wrongFields}
-use Rattle.reader.proofs.Numbers.{name-count, rule-count, rule-short, end-count, unknown-count}
+use Rattle.reader.proofs.FieldCounts.{name-count, rule-count, rule-short, end-count, unknown-wrong}
 use Rattle.reader.proofs.right_count.Statement.{statement}
 use Rattle.reader.proofs.right_count.Tie as tie
 
@@ -41,7 +41,7 @@ returns-4 : tie.Need-returns-4
 returns-4 c = λ others size. end-count others _ size ∙ ap (right others) (sym (c .enum-told3 .given .1))
 
 returns-5 : tie.Need-returns-5
-returns-5 c = λ others size. unknown-count others ∙ ap (right others) (sym (c .enum-told4 .given .1))
+returns-5 c = λ others size. ap not (sym (unknown-wrong others)) ∙ ap (right others) (sym (c .enum-told4 .given .1))
 
 pub right-count-spec : {M : Type 1} → statement M
 right-count-spec = tie.close (tie.spec enum-told enum-told-2 add-result enum-told-3 enum-told-4 returns returns-2 returns-3 returns-4 returns-5)
