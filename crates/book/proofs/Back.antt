@@ -12,7 +12,8 @@ use borrow.Author.Tests.{eq-eqb, ne-eqb}
 use Rattle.wfsx.specs.Sets.{_isIn_}
 use Rattle.wfsx.specs.Program.{Entry, positive, default, Rule}
 use Rattle.litset.specs.Words.{capacity}
-use Rattle.book.specs.Limits.{maxNames, maxRules, maxLength}
+use Rattle.scan.specs.Text.{maxLength}
+use Rattle.book.specs.Limits.{maxNames, maxRules}
 use Rattle.book.specs.Book.{rows, clamp, nameAt, namesIn, namesOf, literalOf, entryOf, bodyAt, ruleAt, rulesIn, rulesOf, padded, joined, codeOf, bodyCodes, startsFrom, textTable, lengthTable, headTable, startTable, entryTable, bookOf}
 use Rattle.book.proofs.Counts.{clamp-least}
 use Rattle.book.proofs.Tables.{allCodes, padded-length, starts-length}

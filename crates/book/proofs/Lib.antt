@@ -7,3 +7,4 @@ pub mod Parts
 pub mod Bodies
 pub mod Counts
 pub mod Heads
+pub mod Names

@@ -1,7 +1,7 @@
 -- Laws of parts of a list, and of the look-up of a name.
 use mathlib.Core.Path.{_≡_, refl, sym, _∙_}
 use mathlib.Core.Logic.{_↔_}
-use mathlib.Core.Bool.{true, false}
+use mathlib.Core.Bool.{Bool, true, false}
 use mathlib.Core.List.{List, [], _∷_}
 use Prim.Native.Nat.{ℕ, suc, _+_, _-_, _*_, _/_, _≤_, _<_}
 use native.Mathlib.Omega.{arith}
@@ -9,8 +9,8 @@ use native.Mathlib.Numerals.{add-one}
 use lib.ListN.{length, take, drop, getD, length-drop, drop-of-length-le}
 use lib.Seq.{take-all, take-nil}
 use Rattle.scan.proofs.Bytes.{same-refl, same-equal}
-use Rattle.book.specs.Book.{rows, clamp, nameAt, sameName, findFrom}
-use Rattle.book.specs.Limits.{maxLength}
+use Rattle.scan.specs.Text.{maxLength}
+use Rattle.book.specs.Book.{rows, clamp, nameAt, SameName, sameName, findFrom}
 use Rattle.book.specs.declared.Found.the-variants.{Nothing, At}
 use Rattle.book.proofs.Rows.{rows-step, rows-end}
 
@@ -27,15 +27,15 @@ module _ (s : List ℕ) (from n : ℕ) where
   part-inside = let e : from + n - from ≡ n = omega arith in rw e
 
 -- no name begins past the text
-pub name-past : (text lengths : List ℕ) (k : ℕ) → length text / 16 < k → [] ≡ nameAt text lengths k
-name-past text lengths k h = part-past text (16 * k) (clamp maxLength (getD lengths k 0)) (omega arith)
+pub name-past : (text lengths : List ℕ) (k : ℕ) → length text / maxLength < k → [] ≡ nameAt text lengths k
+name-past text lengths k h = part-past text (maxLength * k) (clamp maxLength (getD lengths k 0)) (omega arith)
 
 -- ---- a name among names
 
--- two names are the same exactly where they are equal
-pub same-is-equal : (a b : List ℕ) → (sameName a b ≡ true) ↔ (a ≡ b)
-unfolding sameName
-same-is-equal a b = (same-equal a b, λ e. rw e (same-refl b))
+-- the test decides whether two names are the same
+pub same-decides : (a b : List ℕ) → (sameName a b ≡ true) ↔ SameName a b
+unfolding sameName SameName
+same-decides a b = (same-equal a b, λ e. rw e (same-refl b))
 
 module _ (k : ℕ) (name : List ℕ) where
   pub find-none : findFrom k name [] ≡ Nothing
@@ -50,6 +50,21 @@ module _ (k : ℕ) (name : List ℕ) where
     pub find-later : sameName m name ≡ false → findFrom k name (m ∷ ms) ≡ findFrom (suc k) name ms
     unfolding findFrom
     find-later e = rw e
+
+-- a name that is found has a number below the count of names
+pub found-below : (k : ℕ) (n : List ℕ) (names : List (List ℕ)) (i : ℕ) → findFrom k n names ≡ At i → i < k + length names
+found-below k n [] i e =
+    let none = find-none k n in
+    let z : _≡_ {A = ℕ} 0 1 = cc in
+    absurd (omega arith)
+found-below k n (m ∷ ms) i e = go (found-below (suc k) n ms i) (sameName m n) refl e
+  where
+    go : (findFrom (suc k) n ms ≡ At i → i < suc k + length ms) → (t : Bool) → sameName m n ≡ t → findFrom k n (m ∷ ms) ≡ At i → i < k + suc (length ms)
+    go rest true p q =
+        let here : At k ≡ At i = sym (find-first k n m ms p) ∙ q in
+        let number : k ≡ i = cc in
+        omega arith
+    go rest false p q = let later = rest (sym (find-later k n m ms p) ∙ q) in omega arith
 
 -- for a loop over the names that has come to name k of n
 module _ (f : ℕ → List ℕ) (name : List ℕ) (k n : ℕ) where

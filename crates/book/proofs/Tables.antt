@@ -9,7 +9,8 @@ use lib.ListN.{length, drop, set, replicate, length-append, length-replicate, le
 use lib.Seq.{sets, sets-eq, take-append-seam, drop-append-add}
 use Rattle.wfsx.specs.Sets.{_isIn_}
 use Rattle.wfsx.specs.Program.{Rule}
-use Rattle.book.specs.Limits.{maxNames, maxRules, maxEntries, maxLength}
+use Rattle.scan.specs.Text.{maxLength}
+use Rattle.book.specs.Limits.{maxNames, maxRules, maxEntries}
 use Rattle.book.specs.Book.{padded, joined, codeOf, bodyCodes, startsFrom, textTable, lengthTable, headTable, startTable, entryTable, bookOf}
 
 -- ---- lists with zeros behind them

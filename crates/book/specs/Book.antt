@@ -1,5 +1,6 @@
 -- The meaning of a `Book`, whatever its bits: names and rules, and with the facts put in a program (document 01, "The marking file", "From
 -- rules to a model").
+use mathlib.Core.Path.{_≡_}
 use mathlib.Core.Bool.{Bool, cond}
 use mathlib.Core.List.{List, [], _∷_, _++_, map}
 use Prim.Native.Nat.{ℕ, zero, suc, _+_, _-_, _*_, _/_, _%_, min}
@@ -8,8 +9,8 @@ use lib.ListN.{length, getD, take, drop, replicate}
 use Rattle.wfsx.specs.Sets.{Set, members}
 use Rattle.wfsx.specs.Program.{Entry, positive, default, Rule, Program, withFacts}
 use Rattle.litset.specs.Words.{capacity}
-use Rattle.scan.specs.Text.{sameBytes}
-use Rattle.book.specs.Limits.{maxNames, maxRules, maxEntries, maxLength}
+use Rattle.scan.specs.Text.{sameBytes, maxLength}
+use Rattle.book.specs.Limits.{maxNames, maxRules, maxEntries}
 use Rattle.book.specs.declared.Book.{Book}
 use Rattle.book.specs.declared.Entry as declared
 use Rattle.book.specs.declared.Entry.the-variants.{Positive, Default}
@@ -27,7 +28,7 @@ clamp most n = min n most
 
 -- ---- names
 
--- name k: its bytes stand from 16 k on
+-- name k: its bytes stand from maxLength k on
 abbrev pub nameAt : List ℕ → List ℕ → ℕ → List ℕ
 nameAt text lengths k = take (clamp maxLength (getD lengths k 0)) (drop (maxLength * k) text)
 
@@ -38,7 +39,11 @@ namesIn text lengths count = rows (nameAt text lengths) 0 count
 abbrev pub namesOf : Book → List (List ℕ)
 namesOf b = namesIn (b .text) (b .lengths) (clamp maxNames (b .names))
 
--- whether two names are the same: refusals 6 and 7 and every look-up go by this
+-- two names are the same: refusals 6 and 7 go by this, and every look-up by its test
+unfoldable pub SameName : List ℕ → List ℕ → Type 0
+SameName a b = a ≡ b
+
+-- `proofs/Lookup.antt` shows that the test decides it
 unfoldable pub sameName : List ℕ → List ℕ → Bool
 sameName a b = sameBytes a b
 

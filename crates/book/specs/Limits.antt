@@ -1,4 +1,5 @@
--- What the tables of a book hold (document 01, "The marking file"). `src/lib.rt` has the same numbers.
+-- What the tables of a book hold (document 01, "The marking file"). `src/lib.rt` has the same numbers. How long a name is stands in scan's
+-- specs/Text.antt.
 use Prim.Native.Nat.{ℕ}
 
 abbrev pub maxNames : ℕ
@@ -10,6 +11,6 @@ maxRules = 512
 abbrev pub maxEntries : ℕ
 maxEntries = 2048
 
--- the bytes of one name
-abbrev pub maxLength : ℕ
-maxLength = 16
+-- the literals of one body
+abbrev pub maxBody : ℕ
+maxBody = 16

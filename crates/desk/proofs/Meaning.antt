@@ -8,17 +8,13 @@ use lib.ListN.{length}
 use borrow.Author.Tests.{eq-eqb, ne-eqb, ltb-true, lt-ltb, le-ltb}
 use Rattle.litset.specs.Words.{capacity, setOf}
 use Rattle.book.specs.Limits.{maxNames}
-use Rattle.book.specs.Book.{clamp, nameAt, namesOf, rulesOf, program, programOf}
-use Rattle.book.specs.declared.Book.{Book}
+use Rattle.book.specs.Book.{clamp, namesOf, rulesOf, program, programOf}
 use Rattle.book.proofs.Counts.{clamp-most}
-use Rattle.book.proofs.Rows.{rows-length}
 use Rattle.book.proofs.Heads.{program-of}
+use Rattle.book.proofs.Names.{names-counted}
 use Rattle.desk.specs.Listed.{BookState, unloaded, loaded-with, noneLoaded, inBook, itsNames, itsRules, programIn}
 use Rattle.desk.specs.Calls.{bookStateOf, meaningOf}
 use Rattle.desk.specs.declared.Lesson.{Lesson}
-
-pub names-counted : (b : Book) → length (namesOf b) ≡ clamp maxNames (b .names)
-names-counted b = rows-length (nameAt (b .text) (b .lengths)) 0 (clamp maxNames (b .names))
 
 module _ (l : Lesson) where
   pub state-unloaded : l .loaded ≡ 0 → meaningOf l .book ≡ unloaded

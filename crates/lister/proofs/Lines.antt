@@ -2,24 +2,24 @@
 use mathlib.Core.Path.{_≡_, refl, ap, _∙_}
 use mathlib.Core.List.{List, [], _∷_, _++_, append-assoc}
 use Prim.Native.Nat.{ℕ, zero, suc, _+_, _-_, _*_, _^_, _≤_, _<_}
-use native.Mathlib.Nat.{zero-add}
-use native.Mathlib.Decide.{decLt}
 use native.Mathlib.Numerals.{add-one}
 use native.Mathlib.Omega.{arith}
-use lib.ListN.{length, getD, drop, length-append, length-take, List·getD-eq-default}
+use lib.ListN.{length, getD, length-append}
 use Rattle.wfsx.specs.Sets.{members}
 use Rattle.wfsx.proofs.Members.{length-most}
 use Rattle.litset.specs.Words.{capacity, setOf}
 use Rattle.litset.specs.declared.LitSet.{LitSet}
 use Rattle.wfsx.specs.Model.{Verdict, is-true, is-false, is-undefined}
-use Rattle.book.specs.Book.{rows, clamp, nameAt, namesIn, ruleAt, rulesOf}
+use Rattle.book.specs.Book.{rows, clamp, nameAt, namesIn, rulesOf}
 use Rattle.book.specs.declared.Book.{Book}
-use Rattle.book.specs.Limits.{maxNames, maxRules, maxLength}
-use Rattle.book.proofs.Rows.{rows-none, rows-first, rows-length, row-at, rows-step, rows-end}
+use Rattle.book.specs.Limits.{maxNames, maxRules}
+use Rattle.book.proofs.Rows.{rows-none, rows-first, rows-step, rows-end}
 use Rattle.book.proofs.Counts.{clamp-most}
 use Rattle.fixpoint.specs.declared.Model.{Model}
 use Rattle.litset.specs.declared.Clash.{Clash}
 use Rattle.litset.specs.declared.Clash.the-variants.{None, Name}
+use Rattle.scan.specs.Text.{comma, newline, maxLength}
+use Rattle.book.proofs.Names.{names-count, name-most, name-short, rules-counted}
 use Rattle.lister.specs.Listing.{modelWord, contradictionWord, refusedWord, verdictWord, digits, field, line, nameLine, nameLines, listingBy, verdictsBy, listingIn, refusalOf}
 use Rattle.lister.specs.Steps.{Room, Put, countsTo, verdictsEnd}
 use Rattle.lister.proofs.Stored.{room-first, Left, left-step, left-none}
@@ -27,7 +27,7 @@ use Rattle.lister.proofs.Digits.{digits-most}
 
 -- ---- a name's line, and the lines from name k on
 
-pub name-line-is : (v : ℕ → Verdict) (k : ℕ) (name : List ℕ) → nameLine v k name ≡ field (digits k) 44 ++ (field name 44 ++ verdictsEnd v k)
+pub name-line-is : (v : ℕ → Verdict) (k : ℕ) (name : List ℕ) → nameLine v k name ≡ field (digits k) comma ++ (field name comma ++ verdictsEnd v k)
 unfolding line
 name-line-is v k name = refl
 
@@ -56,11 +56,11 @@ module _ (v : ℕ → Verdict) (f : ℕ → List ℕ) (n k : ℕ) {all t u : Lis
 -- ---- the listing
 
 module _ (names : List (List ℕ)) (rules facts : ℕ) (v : ℕ → Verdict) where
-  pub clear-is : listingBy names rules facts v None ≡ field modelWord 44 ++ (countsTo 10 (length names) rules facts ++ nameLines v 0 names)
+  pub clear-is : listingBy names rules facts v None ≡ field modelWord comma ++ (countsTo newline (length names) rules facts ++ nameLines v 0 names)
   unfolding listingBy line
-  clear-is = append-assoc (field modelWord 44) (countsTo 10 (length names) rules facts) (nameLines v 0 names)
+  clear-is = append-assoc (field modelWord comma) (countsTo newline (length names) rules facts) (nameLines v 0 names)
 
-  pub clash-is : (n : ℕ) → listingBy names rules facts v (Name n) ≡ field contradictionWord 44 ++ (countsTo 44 (length names) rules facts ++ field (getD names n []) 10)
+  pub clash-is : (n : ℕ) → listingBy names rules facts v (Name n) ≡ field contradictionWord comma ++ (countsTo comma (length names) rules facts ++ field (getD names n []) newline)
   unfolding listingBy line
   clash-is n = simp append-assoc
 
@@ -69,19 +69,19 @@ module _ (b : Book) (facts : LitSet) (m : Model) {names rules putIn : ℕ} (ns :
     (fs : putIn ≡ length (members capacity (setOf (facts .words)))) where
   by-counts : (c : Clash) → m .clash ≡ c → listingIn b facts m ≡ listingBy (namesIn (b .text) (b .lengths) names) rules putIn (verdictsBy m) c
   unfolding listingIn
-  by-counts c e = rw (ns, rs, fs, e, rows-length (ruleAt (b .heads) (b .starts) (b .entries)) 0 (clamp maxRules (b .rules)))
+  by-counts c e = rw (ns, rs, fs, e, rules-counted b)
 
   pub clear-parts : m .clash ≡ None
-      → listingIn b facts m ≡ field modelWord 44 ++ (countsTo 10 names rules putIn ++ nameLines (verdictsBy m) 0 (namesIn (b .text) (b .lengths) names))
+      → listingIn b facts m ≡ field modelWord comma ++ (countsTo newline names rules putIn ++ nameLines (verdictsBy m) 0 (namesIn (b .text) (b .lengths) names))
   clear-parts e =
-      by-counts None e ∙ clear-is (namesIn (b .text) (b .lengths) names) rules putIn (verdictsBy m) ∙ rw (rows-length (nameAt (b .text) (b .lengths)) 0 names)
+      by-counts None e ∙ clear-is (namesIn (b .text) (b .lengths) names) rules putIn (verdictsBy m) ∙ rw (names-count (b .text) (b .lengths) names)
 
   pub clash-parts : (k : ℕ) → m .clash ≡ Name k
-      → listingIn b facts m ≡ field contradictionWord 44 ++ (countsTo 44 names rules putIn ++ field (getD (namesIn (b .text) (b .lengths) names) k []) 10)
+      → listingIn b facts m ≡ field contradictionWord comma ++ (countsTo comma names rules putIn ++ field (getD (namesIn (b .text) (b .lengths) names) k []) newline)
   clash-parts k e =
-      by-counts (Name k) e ∙ clash-is (namesIn (b .text) (b .lengths) names) rules putIn (verdictsBy m) k ∙ rw (rows-length (nameAt (b .text) (b .lengths)) 0 names)
+      by-counts (Name k) e ∙ clash-is (namesIn (b .text) (b .lengths) names) rules putIn (verdictsBy m) k ∙ rw (names-count (b .text) (b .lengths) names)
 
-pub refusal-is : (number at : ℕ) → refusalOf number at ≡ field refusedWord 44 ++ (field (digits number) 44 ++ field (digits at) 10)
+pub refusal-is : (number at : ℕ) → refusalOf number at ≡ field refusedWord comma ++ (field (digits number) comma ++ field (digits at) newline)
 unfolding refusalOf line
 refusal-is number at = refl
 
@@ -99,93 +99,73 @@ verdict-most is-true = omega arith
 verdict-most is-false = omega arith
 verdict-most is-undefined = omega arith
 
-name-most : (text lengths : List ℕ) (k : ℕ) → length (nameAt text lengths k) ≤ 16
-name-most text lengths k =
-    let n = clamp maxLength (getD lengths k 0) in
-    rw (length-take n (drop (16 * k) text)) (omega (arith, clamp-most maxLength (getD lengths k 0)))
-
 counts-most : (stop names rules facts : ℕ) → names < 10 ^ 20 → rules < 10 ^ 20 → facts < 10 ^ 20 → length (countsTo stop names rules facts) ≤ 63
 counts-most stop names rules facts a b c =
-    let rest = field (digits rules) 44 ++ field (digits facts) stop in
+    let rest = field (digits rules) comma ++ field (digits facts) stop in
     omega (
       arith,
-      length-append (field (digits names) 44) rest,
-      length-append (field (digits rules) 44) (field (digits facts) stop),
-      number-most names 44 a,
-      number-most rules 44 b,
+      length-append (field (digits names) comma) rest,
+      length-append (field (digits rules) comma) (field (digits facts) stop),
+      number-most names comma a,
+      number-most rules comma b,
       number-most facts stop c,
     )
 
-line-most : (v : ℕ → Verdict) (k : ℕ) (name : List ℕ) → k < 10 ^ 20 → length name ≤ 16 → length (nameLine v k name) ≤ 58
+line-most : (v : ℕ → Verdict) (k : ℕ) (name : List ℕ) → k < 10 ^ 20 → length name ≤ maxLength → length (nameLine v k name) ≤ maxLength + 42
 line-most v k name h l =
     let first = verdictWord (v (2 * k)) in
     let second = verdictWord (v (2 * k + 1)) in
     omega (
       arith,
       ap length (name-line-is v k name),
-      length-append (field (digits k) 44) (field name 44 ++ verdictsEnd v k),
-      length-append (field name 44) (verdictsEnd v k),
-      length-append (field first 44) (field second 10),
-      length-field name 44,
-      length-field first 44,
-      length-field second 10,
-      number-most k 44 h,
+      length-append (field (digits k) comma) (field name comma ++ verdictsEnd v k),
+      length-append (field name comma) (verdictsEnd v k),
+      length-append (field first comma) (field second newline),
+      length-field name comma,
+      length-field first comma,
+      length-field second newline,
+      number-most k comma h,
       verdict-most (v (2 * k)),
       verdict-most (v (2 * k + 1)),
     )
 
-lines-most : (v : ℕ → Verdict) (f : ℕ → List ℕ) → ((k : ℕ) → length (f k) ≤ 16) → (k n : ℕ) → k + n < 10 ^ 20 → length (nameLines v k (rows f k n)) ≤ 58 * n
+lines-most : (v : ℕ → Verdict) (f : ℕ → List ℕ) → ((k : ℕ) → length (f k) ≤ maxLength) → (k n : ℕ) → k + n < 10 ^ 20 → length (nameLines v k (rows f k n)) ≤ (maxLength + 42) * n
 unfolding nameLines
 lines-most v f short k zero h = rw (rows-none f k) (omega arith)
 lines-most v f short k (suc n) h =
     rw (rows-first f k n) (omega (arith, length-append (nameLine v k (f k)) (nameLines v (suc k) (rows f (suc k) n)), line-most v k (f k) (omega arith) (short k), lines-most v f short (suc k) n (omega arith)))
 
--- a name of the rows, or the empty name past them
-module _ (text lengths : List ℕ) (n k : ℕ) where
-  pub name-in : k < n → getD (rows (nameAt text lengths) 0 n) k [] ≡ nameAt text lengths k
-  name-in h = row-at (nameAt text lengths) [] 0 n k h ∙ ap (nameAt text lengths) (zero-add k)
-
-  pub name-past : n ≤ k → getD (rows (nameAt text lengths) 0 n) k [] ≡ []
-  name-past h = List·getD-eq-default (rows (nameAt text lengths) 0 n) [] (rw (rows-length (nameAt text lengths) 0 n) h)
-
-  name-short : length (getD (rows (nameAt text lengths) 0 n) k []) ≤ 16
-  name-short = go (decLt k n)
-    where
-      go : Dec (k < n) → length (getD (rows (nameAt text lengths) 0 n) k []) ≤ 16
-      go (yes h) = rw (name-in h) (name-most text lengths k)
-      go (no h) = rw (name-past (omega arith)) (omega arith)
-
 module _ (text lengths : List ℕ) (n rules facts : ℕ) (v : ℕ → Verdict) (few : n ≤ maxNames) (fit : rules < 10 ^ 20) (fit' : facts < 10 ^ 20) where
-  room-by : (c : Clash) → Room (listingBy (rows (nameAt text lengths) 0 n) rules facts v c) 0
+  room-by : (c : Clash) → Room (listingBy (namesIn text lengths n) rules facts v c) 0
   room-by None =
-      let names = rows (nameAt text lengths) 0 n in
-      let size = rows-length (nameAt text lengths) 0 n in
-      let head = countsTo 10 (length names) rules facts in
+      let names = namesIn text lengths n in
+      let size = names-count text lengths n in
+      let head = countsTo newline (length names) rules facts in
       record {
         fits =
             omega (
               arith,
               ap length (clear-is names rules facts v),
-              length-append (field modelWord 44) (head ++ nameLines v 0 names),
+              length-append (field modelWord comma) (head ++ nameLines v 0 names),
               length-append head (nameLines v 0 names),
-              counts-most 10 (length names) rules facts (omega arith) fit fit',
+              counts-most newline (length names) rules facts (omega arith) fit fit',
               lines-most v (nameAt text lengths) (name-most text lengths) 0 n (omega arith),
             );
       }
   room-by (Name k) =
-      let names = rows (nameAt text lengths) 0 n in
-      let size = rows-length (nameAt text lengths) 0 n in
-      let head = countsTo 44 (length names) rules facts in
+      let names = namesIn text lengths n in
+      let size = names-count text lengths n in
+      let head = countsTo comma (length names) rules facts in
       let last = getD names k [] in
       record {
         fits =
             omega (
               arith,
               ap length (clash-is names rules facts v k),
-              length-append (field contradictionWord 44) (head ++ field last 10),
-              length-append head (field last 10),
-              counts-most 44 (length names) rules facts (omega arith) fit fit',
-              length-field last 10,
+              length-append (field contradictionWord comma) (head ++ field last newline),
+              length-append head (field last newline),
+              counts-most comma (length names) rules facts (omega arith) fit fit',
+              length-field last newline,
               name-short text lengths n k,
             );
       }
@@ -194,13 +174,13 @@ pub listing-room : (b : Book) (facts : LitSet) (m : Model) → Room (listingIn b
 unfolding listingIn
 listing-room b facts m =
     room-by (b .text) (b .lengths) (clamp maxNames (b .names)) (length (rulesOf b)) (length (members capacity (setOf (facts .words)))) (verdictsBy m)
-    (clamp-most maxNames (b .names)) (omega (arith, rows-length (ruleAt (b .heads) (b .starts) (b .entries)) 0 (clamp maxRules (b .rules)), clamp-most maxRules (b .rules)))
+    (clamp-most maxNames (b .names)) (omega (arith, rules-counted b, clamp-most maxRules (b .rules)))
     (omega (arith, length-most (setOf (facts .words)) 0 capacity)) (m .clash)
 
 pub refusal-room : (number at : ℕ) → number < 10 ^ 20 → at < 10 ^ 20 → Room (refusalOf number at) 0
 refusal-room number at h l =
-    let rest = field (digits number) 44 ++ field (digits at) 10 in
+    let rest = field (digits number) comma ++ field (digits at) newline in
     record {
       fits =
-          omega (arith, ap length (refusal-is number at), length-append (field refusedWord 44) rest, length-append (field (digits number) 44) (field (digits at) 10), number-most number 44 h, number-most at 10 l);
+          omega (arith, ap length (refusal-is number at), length-append (field refusedWord comma) rest, length-append (field (digits number) comma) (field (digits at) newline), number-most number comma h, number-most at newline l);
     }

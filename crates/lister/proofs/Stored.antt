@@ -41,6 +41,14 @@ room-first a b h = record { fits = omega (arith, length-append a b) }
 pub room-rest : (a b : List ℕ) {at p : ℕ} {t u : List ℕ} → Room (a ++ b) at → Put a at t u p → Room b p
 room-rest a b h x = record { fits = omega (arith, length-append a b, x .place) }
 
+-- of three runs, one behind the other
+module _ (a b c : List ℕ) {at p : ℕ} {t u : List ℕ} (h : Room (a ++ (b ++ c)) at) (x : Put a at t u p) where
+  pub room-second : Room b p
+  room-second = room-first b c (room-rest a (b ++ c) h x)
+
+  pub room-third : {q : ℕ} {w : List ℕ} → Put b p u w q → Room c q
+  room-third y = room-rest b c (room-rest a (b ++ c) h x) y
+
 -- ---- a loop that has stored a part of `all`: there is room for the rest, and who stores the rest has stored all
 
 pub record Left (all : List ℕ) (at : ℕ) (before rest : List ℕ) (p : ℕ) (reached : List ℕ) : Type 0 where

@@ -15,6 +15,7 @@ use Rattle.fixpoint.specs.Result.{verdictIn}
 use Rattle.fixpoint.specs.declared.Model.{Model}
 use Rattle.litset.specs.declared.Clash.{Clash}
 use Rattle.litset.specs.declared.Clash.the-variants.{None, Name}
+use Rattle.scan.specs.Text.{comma, newline}
 
 -- ---- words and numbers
 
@@ -59,10 +60,10 @@ digits n = lastDigits (suc n) n
 abbrev pub field : List ℕ → ℕ → List ℕ
 field f stop = f ++ (stop ∷ [])
 
--- a line: its fields parted by commas (44), and byte 10 at its end
+-- a line: its fields parted by commas, and byte 10 at its end
 unfoldable pub line : List ℕ → List (List ℕ) → List ℕ
-line f [] = field f 10
-line f (g ∷ fs) = field f 44 ++ line g fs
+line f [] = field f newline
+line f (g ∷ fs) = field f comma ++ line g fs
 
 -- NAMES, RULES and FACTS, the fields that both headers have behind their word
 abbrev pub counts : ℕ → ℕ → ℕ → List (List ℕ)

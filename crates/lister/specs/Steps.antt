@@ -5,6 +5,7 @@ use Prim.Native.Nat.{ℕ, _+_, _*_, _≤_}
 use lib.ListN.{length}
 use lib.Seq.{sets}
 use Rattle.wfsx.specs.Model.{Verdict}
+use Rattle.scan.specs.Text.{comma, newline}
 use Rattle.lister.specs.Listing.{verdictWord, digits, field}
 
 -- Bytes that stand from `at` on end early enough for every place to be a number of the machine; no listing is longer.
@@ -18,8 +19,8 @@ pub record Put (bytes : List ℕ) (at : ℕ) (before after : List ℕ) (next : �
 
 -- the counts of a header, with `stop` behind the last
 abbrev pub countsTo : ℕ → ℕ → ℕ → ℕ → List ℕ
-countsTo stop names rules facts = field (digits names) 44 ++ (field (digits rules) 44 ++ field (digits facts) stop)
+countsTo stop names rules facts = field (digits names) comma ++ (field (digits rules) comma ++ field (digits facts) stop)
 
 -- the verdicts of name k as the end of its line
 abbrev pub verdictsEnd : (ℕ → Verdict) → ℕ → List ℕ
-verdictsEnd v k = field (verdictWord (v (2 * k))) 44 ++ field (verdictWord (v (2 * k + 1))) 10
+verdictsEnd v k = field (verdictWord (v (2 * k))) comma ++ field (verdictWord (v (2 * k + 1))) newline

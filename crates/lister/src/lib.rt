@@ -5,6 +5,7 @@ ghost use Prim.Native.Nat.{_<_, _≤_};
 ghost use lib.ListN.{getD};
 ghost use Rattle.book.specs.Limits.{maxNames};
 ghost use Rattle.book.specs.Book.{nameAt, namesIn};
+ghost use Rattle.scan.specs.Text.{newline};
 ghost use Rattle.lister.specs.Listing.{verdictWord, digits, field, nameLine, nameLines, verdictsBy, listingIn, refusalOf};
 ghost use Rattle.lister.specs.Buffer.{Writes};
 ghost use Rattle.lister.specs.Steps.{Room, Put, countsTo, verdictsEnd};
@@ -93,7 +94,7 @@ fn put_verdicts(t: &mut [u8], at: usize, model: Model, k: usize) -> usize
     ensures { λ r. ⌜ Put (verdictsEnd (verdictsBy model) k) at (now (t .entry)) (now (t .exit)) r ⌝ }
 {
     let p = put_verdict(t, at, model, 2 * k, b',');
-    put_verdict(t, p, model, 2 * k + 1, 10)
+    put_verdict(t, p, model, 2 * k + 1, b'\n')
 }
 
 // The line of name k.
@@ -106,7 +107,8 @@ fn put_name_line<'a>(
     model: Model,
 ) -> usize
     requires { ⌜ Room (nameLine (verdictsBy model) k (nameAt (now text) (now lengths) k)) at × (k < maxNames) ⌝ }
-    ensures { λ r. ⌜ Put (nameLine (verdictsBy model) k (nameAt (now (text .entry)) (now (lengths .entry)) k)) at (now (t .entry)) (now (t .exit)) r ⌝ }
+    ensures { λ r. ⌜ Put (nameLine (verdictsBy model) k (nameAt (now (text .entry)) (now (lengths .entry)) k))
+        at (now (t .entry)) (now (t .exit)) r ⌝ }
 {
     let p = put_number(t, at, k, b',');
     let q = put_word(t, p, book::name_at(text, lengths, k), b',');
@@ -123,7 +125,8 @@ fn put_name_lines<'a>(
     model: Model,
 ) -> usize
     requires { ⌜ Room (nameLines (verdictsBy model) 0 (namesIn (now text) (now lengths) count)) at × (count ≤ maxNames) ⌝ }
-    ensures { λ r. ⌜ Put (nameLines (verdictsBy model) 0 (namesIn (now (text .entry)) (now (lengths .entry)) count)) at (now (t .entry)) (now (t .exit)) r ⌝ }
+    ensures { λ r. ⌜ Put (nameLines (verdictsBy model) 0 (namesIn (now (text .entry)) (now (lengths .entry)) count))
+        at (now (t .entry)) (now (t .exit)) r ⌝ }
 {
     let mut p = at;
     let mut k = 0;
@@ -143,13 +146,14 @@ fn put_name_end<'a>(
     count: usize,
     k: usize,
 ) -> usize
-    requires { ⌜ Room (field (getD (namesIn (now text) (now lengths) count) k []) 10) at ⌝ }
-    ensures { λ r. ⌜ Put (field (getD (namesIn (now (text .entry)) (now (lengths .entry)) count) k []) 10) at (now (t .entry)) (now (t .exit)) r ⌝ }
+    requires { ⌜ Room (field (getD (namesIn (now text) (now lengths) count) k []) newline) at ⌝ }
+    ensures { λ r. ⌜ Put (field (getD (namesIn (now (text .entry)) (now (lengths .entry)) count) k []) newline)
+        at (now (t .entry)) (now (t .exit)) r ⌝ }
 {
     if k < count {
-        return put_word(t, at, book::name_at(text, lengths, k), 10);
+        return put_word(t, at, book::name_at(text, lengths, k), b'\n');
     }
-    put_word(t, at, &text[..0], 10)
+    put_word(t, at, &text[..0], b'\n')
 }
 
 // ---- the listing, from the start of a buffer on
@@ -164,7 +168,7 @@ fn put_listing(t: &mut [u8], book: Book, facts: LitSet, model: Model) -> usize
     match clash {
         Clash::None => {
             let p = put_word(t, 0, b"model", b',');
-            let q = put_counts(t, p, names, rules, put_in, 10);
+            let q = put_counts(t, p, names, rules, put_in, b'\n');
             return put_name_lines(t, q, &book.text, &book.lengths, names, model);
         }
         Clash::Name(k) => {
@@ -180,7 +184,7 @@ fn put_refusal(t: &mut [u8], number: u8, line: usize) -> usize
 {
     let p = put_word(t, 0, b"refused", b',');
     let q = put_number(t, p, number as usize, b',');
-    put_number(t, q, line, 10)
+    put_number(t, q, line, b'\n')
 }
 
 // ---- the calls: a buffer of one byte tells the length, since the place behind the bytes does not depend on how many fit

@@ -11,7 +11,7 @@ use lib.Dec.{eqb, ltb}
 use lib.ListN.{length, take, drop}
 use borrow.Author.Tests.{eqb-true, eqb-false, eq-eqb, ne-eqb}
 use Rattle.wfsx.specs.Program.{Rule}
-use Rattle.scan.specs.Text.{isText, allBytes, fields, wordOf}
+use Rattle.scan.specs.Text.{isText, allBytes, fields, wordOf, comma}
 use Rattle.scan.proofs.Places.{split-some}
 use Rattle.reader.specs.File.{Content, nothingYet, wrongFields, malformed, declaredBefore, usesUndeclared, beyondTable, _when_else_, faultOf, lineFault, withLine, Outcome, accepted, refused, readLines, maxBytes, unended, linesOf, readFile}
 use Rattle.reader.specs.Conditions.{TooLong, StrangeByte, LastLineOpen, AfterEnd, FieldsWrong, FormWrong, NameTaken, NameMissing, TableFull, fileRows, fieldRows, None, First, _unless_, saidBy, NoFaults, Judged, OnLine, Through, NoEnd, IsRefused, IsAccepted}
@@ -34,7 +34,7 @@ fields-give d (first ∷ others) h =
     gives-row 8 _ (beyondTable d w others) (table-full first others d) (λ _. no-row refl tt))))))
 
 line-gives : (d : Content) (line : List ℕ) → Gives (lineFault d (fields line)) (fieldRows d (fields line))
-line-gives d line = fields-give d (fields line) (split-some 44 line)
+line-gives d line = fields-give d (fields line) (split-some comma line)
 
 line-none : (d : Content) (line : List ℕ) → (lineFault d (fields line) ≡ 0) ↔ None (fieldRows d (fields line))
 line-none d line = gives-none (lineFault d (fields line)) (fieldRows d (fields line)) refl (line-gives d line)

@@ -1,7 +1,7 @@
 -- A line whose number is 0 meets none of the tests of the table, since 9, 4, 5, 6, 7 and 8 are not 0; and a test of all entries of a list holds
 -- exactly where it holds of each one.
 use mathlib.Core.Path.{_≡_, refl, sym, ap, _∙_}
-use mathlib.Core.Bool.{Bool, true, false, not, _&&_, _||_, true≢false}
+use mathlib.Core.Bool.{Bool, true, false, not, _&&_}
 use mathlib.Core.Logic.{_↔_}
 use mathlib.Core.List.{List, [], _∷_, List·Memᴰ·head, List·Memᴰ·tail}
 use Prim.Native.Nat.{ℕ, suc}
@@ -35,10 +35,6 @@ line-passes d w others e =
     let g = passed 6 (usesUndeclared d w others) _ (f .1) in
     let h = passed 7 (beyondTable d w others) _ (g .1) in
     record { not-ended = a .0; right-fields = b .0; well-formed = c .0; not-before = f .0; all-declared = g .0; in-table = h .0 }
-
-pub neither : (a b : Bool) → a || b ≡ false → (a ≡ false) × (b ≡ false)
-neither true b e = absurd (true≢false e)
-neither false b e = (refl, e)
 
 pub no-entries : {X : Type 0} (l : List X) → length l ≡ 0 → l ≡ []
 no-entries [] e = refl

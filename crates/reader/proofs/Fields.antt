@@ -1,52 +1,69 @@
 -- Laws over the fields of a line: for a loop that has come to the field at place p, which ends at e, and for a field's name looked up.
-use mathlib.Core.Path.{_≡_, refl, ap, _∙_}
-use mathlib.Core.Bool.{Bool, true, false, cond}
-use mathlib.Core.List.{List}
-use Prim.Native.Nat.{ℕ, zero, suc, _+_, _-_, _*_, _≤_, _<_}
+use mathlib.Core.Path.{_≡_, refl, ap, _∙_, sym, subst}
+use mathlib.Core.Bool.{Bool, true, false, cond, not, or-true, Bool·not-not}
+use mathlib.Core.List.{List, _∷_}
+use Prim.Native.Nat.{ℕ, zero, suc, _+_, _-_, _*_, _≤_, _<_, zero-le}
 use native.Mathlib.Omega.{arith}
 use lib.ListN.{length, take, drop}
 use lib.Dec.{eqb}
 use Rattle.wfsx.specs.Program.{positive, default}
-use Rattle.scan.specs.Text.{lenTo, rest, tildes, minuses, nameOf}
-use Rattle.scan.proofs.Places.{rest-step, rest-none}
+use Rattle.scan.specs.Text.{lenTo, rest, tildes, minuses, nameOf, comma, fields}
+use Rattle.scan.proofs.Places.{rest-step, rest-none, rest-here}
 use Rattle.scan.proofs.Forms.{lead-most}
 use Rattle.book.specs.Limits.{maxNames}
-use Rattle.book.specs.Book.{clamp, nameAt, namesIn, find, codeOf}
+use Rattle.book.specs.Book.{find, codeOf}
 use Rattle.book.specs.declared.Found.{Found}
 use Rattle.book.specs.declared.Found.the-variants.{Nothing, At}
-use Rattle.book.proofs.Counts.{clamp-most}
-use Rattle.book.proofs.Rows.{rows-length}
-use Rattle.reader.specs.File.{allFields, declared, isFound, numberIn, literalNumber, entryFrom}
-use Rattle.reader.specs.Steps.{knownBy, knownOf}
-use Rattle.reader.proofs.Within.{found-below}
+use Rattle.scan.specs.declared.Word.the-variants.{Rule as RuleWord}
+use Rattle.book.proofs.Names.{found-small}
+use Rattle.reader.specs.File.{allFields, declared, isFound, numberIn, literalNumber, entryFrom, isLiteral, hasTilde, malformed}
+use Rattle.reader.specs.Steps.{knownBy, knownOf, tableNames, FieldsKnown}
 use Rattle.reader.specs.declared.Known.{Known}
 use Rattle.reader.specs.declared.Known.the-variants.{Undeclared, Entry}
 
 -- ---- a test of every field
 
-module _ (f : List ℕ → Bool) (l : List ℕ) (p : ℕ) where
-  module _ (e : ℕ) (h : p ≤ length l) (q : e ≡ p + lenTo 44 (drop p l)) where
-    pub fields-go : f (take (e - p) (drop p l)) ≡ true → allFields f (rest 44 l p) ≡ allFields f (rest 44 l (e + 1))
-    unfolding allFields
-    fields-go t = ap (allFields f) (rest-step 44 l p e h q) ∙ rw t
-
-    pub fields-stop : f (take (e - p) (drop p l)) ≡ false → allFields f (rest 44 l p) ≡ false
-    unfolding allFields
-    fields-stop t = ap (allFields f) (rest-step 44 l p e h q) ∙ rw t
-
-  pub fields-end : length l < p → allFields f (rest 44 l p) ≡ true
+module _ (f : List ℕ → Bool) (x : List ℕ) (xs : List (List ℕ)) where
+  pub first-passes : f x ≡ true → allFields f (x ∷ xs) ≡ allFields f xs
   unfolding allFields
-  fields-end h = ap (allFields f) (rest-none 44 l p h)
+  first-passes e = rw e
+
+  pub first-fails : f x ≡ false → allFields f (x ∷ xs) ≡ false
+  unfolding allFields
+  first-fails e = rw e
+
+module _ (f : List ℕ → Bool) (l : List ℕ) (p : ℕ) where
+  module _ (e : ℕ) (h : p ≤ length l) (q : e ≡ p + lenTo comma (drop p l)) where
+    pub fields-go : f (take (e - p) (drop p l)) ≡ true → allFields f (rest comma l p) ≡ allFields f (rest comma l (e + 1))
+    fields-go t = ap (allFields f) (rest-step comma l p e h q) ∙ first-passes f _ _ t
+
+    pub fields-stop : f (take (e - p) (drop p l)) ≡ false → allFields f (rest comma l p) ≡ false
+    fields-stop t = ap (allFields f) (rest-step comma l p e h q) ∙ first-fails f _ _ t
+
+  pub fields-end : length l < p → allFields f (rest comma l p) ≡ true
+  unfolding allFields
+  fields-end h = ap (allFields f) (rest-none comma l p h)
+
+-- the first field of a line ends at e
+pub first-field : (line : List ℕ) (e : ℕ) → e ≡ 0 + lenTo comma (drop 0 line) → fields line ≡ take (e - 0) (drop 0 line) ∷ rest comma line (e + 1)
+first-field line e q = sym (rest-here comma line 0 zero-le) ∙ rest-step comma line 0 e zero-le q
+
+-- ---- the form of a rule, by its head and its body
+
+module _ (h : List ℕ) (ls : List (List ℕ)) where
+  pub head-malformed : isLiteral h ≡ false → false ≡ not (malformed RuleWord (h ∷ ls))
+  unfolding malformed allFields
+  head-malformed e = rw (e, or-true (hasTilde h))
+
+  pub head-tilde : hasTilde h ≡ true → false ≡ not (malformed RuleWord (h ∷ ls))
+  unfolding malformed
+  head-tilde e = rw e
+
+  pub head-formed : isLiteral h ≡ true → hasTilde h ≡ false → allFields isLiteral ls ≡ not (malformed RuleWord (h ∷ ls))
+  unfolding malformed allFields
+  head-formed literal plain = rw (literal, plain, Bool·not-not (allFields isLiteral ls))
 
 -- ---- a name looked up
-
-find-below : (names : List (List ℕ)) (n : List ℕ) (i : ℕ) → find names n ≡ At i → i < length names
-find-below names n i e = omega (arith, found-below 0 n names (ap isFound e), ap numberIn e)
-
--- a number that a table of names gives lies below the most names
-pub found-small : (text lengths : List ℕ) (count : ℕ) (n : List ℕ) (i : ℕ) → find (namesIn text lengths (clamp maxNames count)) n ≡ At i → i < maxNames
-found-small text lengths count n i e =
-    omega (arith, find-below (namesIn text lengths (clamp maxNames count)) n i e, rows-length (nameAt text lengths) 0 (clamp maxNames count), clamp-most maxNames count)
 
 module _ (names : List (List ℕ)) (f : List ℕ) where
   pub known-undeclared : find names (nameOf f) ≡ Nothing → knownOf names f ≡ Undeclared
@@ -113,13 +130,18 @@ module _ (names : List (List ℕ)) (f : List ℕ) where
         go (suc (suc n)) q h = absurd (omega arith)
 
 -- the literal and the mark of a field whose name a table of names has
-pub known-small : (text lengths : List ℕ) (count : ℕ) (f : List ℕ) (l t : ℕ) → knownOf (namesIn text lengths (clamp maxNames count)) f ≡ Entry l t → (l < 2 * maxNames) × (t ≤ 1)
+pub known-small : (text lengths : List ℕ) (count : ℕ) (f : List ℕ) (l t : ℕ) → knownOf (tableNames text lengths count) f ≡ Entry l t → (l < 2 * maxNames) × (t ≤ 1)
 unfolding literalNumber
 known-small text lengths count f l t e =
-    let names = namesIn text lengths (clamp maxNames count) in
+    let names = tableNames text lengths count in
     let few = go (find names (nameOf f)) refl in
     (omega (arith, literal-is names f l t e, lead-most 45 (drop (tildes f) f)), omega (arith, tildes-are names f l t e, lead-most 126 f))
   where
-    go : (x : Found) → find (namesIn text lengths (clamp maxNames count)) (nameOf f) ≡ x → numberIn (find (namesIn text lengths (clamp maxNames count)) (nameOf f)) < maxNames
+    go : (x : Found) → find (tableNames text lengths count) (nameOf f) ≡ x → numberIn (find (tableNames text lengths count) (nameOf f)) < maxNames
     go Nothing q = omega (arith, ap numberIn q)
     go (At i) q = omega (arith, ap numberIn q, found-small text lengths count (nameOf f) i q)
+
+-- what the names of the tables say of the fields, the names that they hold say
+pub known-among : {names names′ fs : List (List ℕ)} {at : ℕ} {r : Bool} {entries entries′ : List ℕ} → names ≡ names′ → FieldsKnown names fs at r entries entries′
+    → FieldsKnown names′ fs at r entries entries′
+known-among {fs = fs} {at = at} {r = r} {entries = entries} {entries′ = entries′} e k = subst (λ (l : List (List ℕ)). FieldsKnown l fs at r entries entries′) e k

@@ -1,99 +1,27 @@
--- What the tables hold, when a name or a rule is read: the fault of its line by the tests in their order, and the tables with it added.
+-- What is held of the lines read so far grows with a line that has no fault: by a name, whose bytes and length are stored behind the others; by a rule,
+-- which is counted, and stored where the slices hold the rules before it; or by the `end`. At first nothing is held.
 use mathlib.Core.Path.{_≡_, refl, sym, ap, ap₂, _∙_, subst}
 use mathlib.Core.Logic.{⊎-elim}
-use mathlib.Core.Bool.{Bool, true, false, not, _||_, or-true}
-use mathlib.Core.List.{List, [], _∷_, _++_, List·Memᴰ·append-cases, List·Memᴰ·eq-of-singleton}
-use Prim.Native.Nat.{ℕ, _+_, _-_, _*_, _≤_, _<_}
+use mathlib.Core.Bool.{false, true}
+use mathlib.Core.List.{List, [], _∷_, _++_, map, map-map, List·Memᴰ·append-cases, List·Memᴰ·eq-of-singleton, List·Memᴰ·not-nil}
+use Prim.Native.Nat.{ℕ, _+_, _*_, _≤_, _<_, zero-le}
 use native.Mathlib.Omega.{arith}
-use lib.ListN.{length, set, length-append, length-map}
+use lib.ListN.{length, set, replicate, length-append, length-map}
 use lib.Seq.{sets}
-use lib.Dec.{leb}
-use borrow.Author.Tests.{le-leb, lt-leb, lt-ltb, le-ltb}
 use Rattle.wfsx.specs.Program.{Rule}
-use Rattle.scan.specs.Text.{isName, nameOf}
-use Rattle.book.specs.Limits.{maxNames, maxRules, maxEntries, maxLength}
+use Rattle.scan.specs.Text.{maxLength}
+use Rattle.scan.specs.declared.Word.the-variants.{Name, Rule as RuleWord, End}
+use Rattle.book.specs.Limits.{maxNames, maxRules, maxEntries}
 use Rattle.book.specs.Book.{clamp, namesIn, codeOf, bodyCodes, textTable, lengthTable, startTable}
-use Rattle.book.proofs.Tables.{allCodes, codes-none, codes-first, text-more, length-more, head-more, start-more, entry-more}
+use Rattle.book.proofs.Tables.{allCodes, codes-none, codes-first, text-more, length-more, head-more, start-more, entry-more, text-none, lengths-none, heads-none, starts-none, entries-none}
 use Rattle.book.proofs.Counts.{clamp-least}
 use Rattle.book.proofs.Back.{names-back}
+use Rattle.reader.specs.File.{Content, nothingYet, bodyLiterals, literalNumber, entryFrom, extended}
+use Rattle.reader.specs.Steps.{noCounts, Holds, Stored, tableNames, fieldCode}
+use Rattle.reader.specs.declared.Counts.{Counts}
 use Rattle.reader.proofs.Within.{literals-append}
-use Rattle.reader.specs.File.{bodyLiterals, allFields, isLiteral, hasTilde, headTilde, declared, _when_else_}
-use Rattle.reader.specs.Steps.{NameTable, RuleTable, nameFault, formFault, ruleForm, ruleFault}
 
--- ---- names
-
-module _ (names : List (List ℕ)) (n : List ℕ) where
-  pub name-malformed : isName n ≡ false → 5 ≡ nameFault names n
-  name-malformed e = rw e
-
-  pub name-declared : isName n ≡ true → declared names n ≡ true → 6 ≡ nameFault names n
-  name-declared e d = rw (e, d)
-
-  pub name-beyond : isName n ≡ true → declared names n ≡ false → maxNames ≤ length names → 8 ≡ nameFault names n
-  name-beyond e d h = rw (e, d, le-leb maxNames (length names) h)
-
-  pub name-fine : isName n ≡ true → declared names n ≡ false → length names < maxNames → 0 ≡ nameFault names n
-  name-fine e d h = rw (e, d, lt-leb maxNames (length names) h)
-
-module _ {names : List (List ℕ)} {count : ℕ} {text lengths : List ℕ} (t : NameTable names count text lengths) where
-  pub held-names : namesIn text lengths (clamp maxNames count) ≡ names
-  held-names =
-      ap₂ (λ (x y : List ℕ). namesIn x y (clamp maxNames count)) (t .text-is) (t .lengths-are)
-      ∙ ap (namesIn (textTable names) (lengthTable names)) (ap (clamp maxNames) (t .counted) ∙ clamp-least maxNames (length names) (t .few)) ∙ names-back names (t .short) (t .few)
-
-  pub name-added : (n text′ lengths′ : List ℕ) → count < maxNames → length n ≤ maxLength → text′ ≡ sets text (maxLength * count) n → lengths′ ≡ set lengths count (length n)
-      → NameTable (names ++ (n ∷ [])) (count + 1) text′ lengths′
-  name-added n text′ lengths′ room fits et el =
-      let size : length (names ++ (n ∷ [])) ≡ length names + 1 = length-append names (n ∷ []) in
-      record {
-        counted = omega (arith, t .counted, size);
-        text-is = et ∙ ap₂ (λ (x : List ℕ) (k : ℕ). sets x (maxLength * k) n) (t .text-is) (t .counted) ∙ text-more names n (omega (arith, t .counted)) (t .short) fits;
-        lengths-are = el ∙ ap₂ (λ (x : List ℕ) (k : ℕ). set x k (length n)) (t .lengths-are) (t .counted) ∙ length-more names n (omega (arith, t .counted));
-        few = omega (arith, t .counted, size);
-        short = λ m i. ⊎-elim (t .short m) (λ j. subst (λ (x : List ℕ). length x ≤ maxLength) (sym (List·Memᴰ·eq-of-singleton j)) fits) (List·Memᴰ·append-cases names i);
-      }
-
--- ---- rules
-
--- a number that is given where a test says so
-pub when-none : (k : ℕ) (b : Bool) (r : ℕ) → r ≡ (k when b else 0) → r ≡ 0 → (k ≡ 0 → ⊥) → b ≡ false
-when-none k true r e z p = absurd (p (sym e ∙ z))
-when-none k false r e z p = refl
-
-pub when-some : (k : ℕ) (b : Bool) (r : ℕ) → r ≡ (k when b else 0) → (r ≡ 0 → ⊥) → b ≡ true
-when-some k true r e p = refl
-when-some k false r e p = absurd (p e)
-
--- the form of a rule by its head and the form of its body
-module _ (h : List ℕ) (ls : List (List ℕ)) where
-  pub head-malformed : isLiteral h ≡ false → 5 ≡ ruleForm (h ∷ ls)
-  unfolding allFields
-  head-malformed e = rw (e, or-true (hasTilde h))
-
-  pub head-tilde : hasTilde h ≡ true → 5 ≡ ruleForm (h ∷ ls)
-  head-tilde e = rw e
-
-  pub head-formed : isLiteral h ≡ true → hasTilde h ≡ false → formFault ls ≡ ruleForm (h ∷ ls)
-  unfolding allFields
-  head-formed literal plain = rw (literal, plain)
-
-module _ (names : List (List ℕ)) (rules : List Rule) (fs : List (List ℕ)) where
-  pub rule-malformed : (headTilde fs || not (allFields isLiteral fs)) ≡ true → 5 ≡ ruleFault names rules fs
-  rule-malformed e = rw e
-
-  module _ (formed : (headTilde fs || not (allFields isLiteral fs)) ≡ false) where
-    pub rule-undeclared : allFields (λ f. declared names (nameOf f)) fs ≡ false → 7 ≡ ruleFault names rules fs
-    rule-undeclared e = rw (formed, e)
-
-    module _ (known : allFields (λ f. declared names (nameOf f)) fs ≡ true) where
-      pub rule-too-many : maxRules ≤ length rules → 8 ≡ ruleFault names rules fs
-      rule-too-many l = rw (formed, known, le-leb maxRules (length rules) l)
-
-      pub rule-too-long : maxEntries < bodyLiterals rules + (length fs - 1) → 8 ≡ ruleFault names rules fs
-      rule-too-long l = rw (formed, known, lt-ltb maxEntries (bodyLiterals rules + (length fs - 1)) l, or-true (leb maxRules (length rules)))
-
-      pub rule-fine : length rules < maxRules → bodyLiterals rules + (length fs - 1) ≤ maxEntries → 0 ≡ ruleFault names rules fs
-      rule-fine l m = rw (formed, known, lt-leb maxRules (length rules) l, le-ltb maxEntries (bodyLiterals rules + (length fs - 1)) m)
+-- ---- body literals
 
 bodies-more : (rules : List Rule) (r : Rule) → bodyLiterals (rules ++ (r ∷ [])) ≡ bodyLiterals rules + length (r .body)
 unfolding bodyLiterals
@@ -104,22 +32,107 @@ unfolding bodyLiterals
 codes-length [] = ap length codes-none
 codes-length (r ∷ rules) = rw codes-first (omega (arith, length-append (bodyCodes r) (allCodes rules), length-map (r .body) codeOf, codes-length rules))
 
-module _ {rules : List Rule} {count used : ℕ} {heads starts entries : List ℕ} (t : RuleTable rules count used heads starts entries) where
-  pub rule-added : (r : Rule) (n : ℕ) (heads′ starts′ entries′ : List ℕ) → length (r .body) ≡ n → count < maxRules → used + n ≤ maxEntries
-      → heads′ ≡ set heads count (r .head) → starts′ ≡ set starts (count + 1) (used + n) → entries′ ≡ sets entries used (bodyCodes r)
-      → RuleTable (rules ++ (r ∷ [])) (count + 1) (used + n) heads′ starts′ entries′
-  rule-added r n heads′ starts′ entries′ size room fits eh es ee =
-      let more : length (rules ++ (r ∷ [])) ≡ length rules + 1 = length-append rules (r ∷ []) in
-      let codes : used ≡ length (allCodes rules) = t .used-is ∙ sym (codes-length rules) in
-      let end : used + n ≡ length (allCodes rules) + length (r .body) = omega (arith, codes, size) in
+-- ---- nothing
+
+pub nothing-held : Holds nothingYet noCounts (replicate (maxLength * maxNames) 0) (replicate maxNames 0)
+unfolding bodyLiterals
+nothing-held =
+    record {
+      counted = record { names-are = refl; rules-are = refl; used-are = refl; ended-is = refl; fits = record { few-names = zero-le; few-rules = zero-le; few-literals = zero-le } };
+      named = record { text-is = sym text-none; lengths-are = sym lengths-none; short = λ n i. absurd (List·Memᴰ·not-nil i) };
+    }
+
+pub nothing-stored : Stored [] (replicate maxRules 0) (replicate (maxRules + 1) 0) (replicate maxEntries 0)
+nothing-stored = record { heads-are = sym heads-none; starts-are = sym starts-none; entries-are = sym entries-none }
+
+module _ {d : Content} {t : Counts} {text lengths : List ℕ} (h : Holds d t text lengths) where
+  pub held-names : tableNames text lengths (t .names) ≡ d .names
+  held-names =
+      let few : length (d .names) ≤ maxNames = omega (arith, h .counted .names-are, h .counted .fits .few-names) in
+      ap₂ (λ (x y : List ℕ). tableNames x y (t .names)) (h .named .text-is) (h .named .lengths-are)
+      ∙ ap (namesIn (textTable (d .names)) (lengthTable (d .names))) (ap (clamp maxNames) (h .counted .names-are) ∙ clamp-least maxNames (length (d .names)) few)
+      ∙ names-back (d .names) (h .named .short) few
+
+  module _ (going : t .ended ≡ false) where
+    -- ---- a name
+
+    pub name-held : (n text′ lengths′ : List ℕ) → t .names < maxNames → length n ≤ maxLength → text′ ≡ sets text (maxLength * t .names) n
+        → lengths′ ≡ set lengths (t .names) (length n)
+        → Holds (extended d Name (n ∷ [])) (record { names = t .names + 1; rules = t .rules; used = t .used; ended = false }) text′ lengths′
+    unfolding extended
+    name-held n text′ lengths′ room short et el =
+        let c = h .counted in
+        let names = d .names in
+        let size : length (names ++ (n ∷ [])) ≡ length names + 1 = length-append names (n ∷ []) in
+        let few : length names < maxNames = omega (arith, c .names-are) in
+        record {
+          counted = record {
+            names-are = omega (arith, c .names-are, size);
+            rules-are = c .rules-are;
+            used-are = c .used-are;
+            ended-is = sym going ∙ c .ended-is;
+            fits = record { few-names = omega arith; few-rules = c .fits .few-rules; few-literals = c .fits .few-literals };
+          };
+          named = record {
+            text-is = et ∙ ap₂ (λ (x : List ℕ) (k : ℕ). sets x (maxLength * k) n) (h .named .text-is) (c .names-are) ∙ text-more names n few (h .named .short) short;
+            lengths-are = el ∙ ap₂ (λ (x : List ℕ) (k : ℕ). set x k (length n)) (h .named .lengths-are) (c .names-are) ∙ length-more names n few;
+            short = λ m i. ⊎-elim (h .named .short m) (λ j. subst (λ (x : List ℕ). length x ≤ maxLength) (sym (List·Memᴰ·eq-of-singleton j)) short) (List·Memᴰ·append-cases names i);
+          };
+        }
+
+    -- ---- a rule
+
+    module _ {fs : List (List ℕ)} (f : List ℕ) (body : List (List ℕ)) (part : fs ≡ f ∷ body) (n : ℕ) (size : n + 1 ≡ length fs) (room : t .rules < maxRules)
+        (fit : t .used + n ≤ maxEntries) where
+      rule : Rule
+      rule = record { head = literalNumber (d .names) f; body = map (entryFrom (d .names)) body }
+
+      entry-count : length (rule .body) ≡ n
+      unfolding rule
+      entry-count = omega (arith, ap length part, length-map body (entryFrom (d .names)))
+
+      pub rule-held : Holds (extended d RuleWord fs) (record { names = t .names; rules = t .rules + 1; used = t .used + n; ended = false }) text lengths
+      unfolding extended rule
+      rule-held =
+          let c = h .counted in
+          rw part (record {
+            counted = record {
+              names-are = c .names-are;
+              rules-are = omega (arith, c .rules-are, length-append (d .rules) (rule ∷ []));
+              used-are = omega (arith, c .used-are, bodies-more (d .rules) rule, entry-count);
+              ended-is = sym going ∙ c .ended-is;
+              fits = record { few-names = c .fits .few-names; few-rules = omega arith; few-literals = fit };
+            };
+            named = h .named;
+          })
+
+      pub rule-stored : {heads starts entries heads′ starts′ entries′ : List ℕ} → heads′ ≡ set heads (t .rules) (literalNumber (d .names) f)
+          → starts′ ≡ set starts (t .rules + 1) (t .used + n) → entries′ ≡ sets entries (t .used) (map (fieldCode (d .names)) body)
+          → Stored (d .rules) heads starts entries → Stored (extended d RuleWord fs .rules) heads′ starts′ entries′
+      unfolding extended rule
+      rule-stored eh es ee s =
+          let c = h .counted in
+          let rules = d .rules in
+          let few : length rules < maxRules = omega (arith, c .rules-are) in
+          let used : t .used ≡ length (allCodes rules) = c .used-are ∙ sym (codes-length rules) in
+          let end : t .used + n ≡ length (allCodes rules) + length (rule .body) = omega (arith, used, entry-count) in
+          rw part (record {
+            heads-are = eh ∙ ap₂ (λ (x : List ℕ) (k : ℕ). set x k (rule .head)) (s .heads-are) (c .rules-are) ∙ head-more rules rule few;
+            starts-are =
+                es ∙ ap₂ (λ (x : List ℕ) (k : ℕ). set x (k + 1) (t .used + n)) (s .starts-are) (c .rules-are)
+                ∙ ap (set (startTable rules) (length rules + 1)) end ∙ start-more rules rule few;
+            entries-are =
+                ee ∙ ap (sets _ (t .used)) (sym (map-map codeOf (entryFrom (d .names)) body))
+                ∙ ap₂ (λ (x : List ℕ) (k : ℕ). sets x k (bodyCodes rule)) (s .entries-are) used ∙ entry-more rules rule (omega arith);
+          })
+
+  -- ---- `end`
+
+  pub end-held : (others : List (List ℕ)) → Holds (extended d End others) (record { names = t .names; rules = t .rules; used = t .used; ended = true }) text lengths
+  unfolding extended
+  end-held others =
+      let c = h .counted in
       record {
-        counted = omega (arith, t .counted, more);
-        used-is = omega (arith, t .used-is, bodies-more rules r, size);
-        heads-are = eh ∙ ap₂ (λ (x : List ℕ) (k : ℕ). set x k (r .head)) (t .heads-are) (t .counted) ∙ head-more rules r (omega (arith, t .counted));
-        starts-are =
-            es ∙ ap₂ (λ (x : List ℕ) (k : ℕ). set x (k + 1) (used + n)) (t .starts-are) (t .counted)
-            ∙ ap (λ (v : ℕ). set (startTable rules) (length rules + 1) v) end ∙ start-more rules r (omega (arith, t .counted));
-        entries-are = ee ∙ ap₂ (λ (x : List ℕ) (k : ℕ). sets x k (bodyCodes r)) (t .entries-are) codes ∙ entry-more rules r (omega arith);
-        few = omega (arith, t .counted, more);
-        room = fits;
+        counted = record { names-are = c .names-are; rules-are = c .rules-are; used-are = c .used-are; ended-is = refl; fits = record { few-names = c .fits .few-names; few-rules = c .fits .few-rules; few-literals = c .fits .few-literals } };
+        named = h .named;
       }

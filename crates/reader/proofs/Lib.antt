@@ -1,11 +1,16 @@
 -- Laws of the reader's definitions.
 pub mod Faults
 pub mod Lines
+pub mod FieldCounts
 pub mod Within
 pub mod Fields
-pub mod Stored
+pub mod Entries
 pub mod Held
-pub mod Judgement
+pub mod Numbers
+pub mod Answers
+pub mod Sizes
+pub mod Progress
+pub mod Whole
 pub mod Short
 pub mod Order
 pub mod Tests

@@ -12,7 +12,7 @@ use lib.ListN.{length, getD, take, length-append}
 use lib.Seq.{take-suc, take-length}
 use borrow.Author.Tests.{eqb-true, eqb-false, eq-eqb, ne-eqb}
 use Rattle.wfsx.specs.Sets.{_isIn_}
-use Rattle.scan.specs.Text.{onto, split, fields}
+use Rattle.scan.specs.Text.{onto, split, fields, comma, newline}
 use Rattle.scan.proofs.Places.{split-none, split-stop, split-byte, split-some}
 use Rattle.reader.specs.File.{linesOf}
 use Rattle.reader.specs.Conditions.{LastLineOpen, closed, FreeOf}
@@ -68,23 +68,23 @@ module _ (stop : ℕ) where
   pub split-is : (s : List ℕ) (ps : List (List ℕ)) → (split stop s ≡ ps) ↔ ((closed stop ps ≡ s ++ stop ∷ []) × FreeOf stop ps)
   split-is s ps = (λ e. subst (λ (l : List (List ℕ)). (closed stop l ≡ s ++ stop ∷ []) × FreeOf stop l) e (split-closed s), λ c. split-unique s ps (c .0) (c .1))
 
-pub fields-are : (line : List ℕ) (fs : List (List ℕ)) → (fields line ≡ fs) ↔ ((closed 44 fs ≡ line ++ 44 ∷ []) × FreeOf 44 fs)
-fields-are line fs = split-is 44 line fs
+pub fields-are : (line : List ℕ) (fs : List (List ℕ)) → (fields line ≡ fs) ↔ ((closed comma fs ≡ line ++ comma ∷ []) × FreeOf comma fs)
+fields-are line fs = split-is comma line fs
 
-pub lines-are : (file : List ℕ) (lines : List (List ℕ)) → (LastLineOpen file → ⊥) → (linesOf file ≡ lines) ↔ ((closed 10 lines ≡ file) × FreeOf 10 lines)
-lines-are file lines shut = subst (λ (l : List ℕ). (linesOf file ≡ lines) ↔ ((closed 10 lines ≡ l) × FreeOf 10 lines)) put-together (split-is 10 (take (length file - 1) file) lines)
+pub lines-are : (file : List ℕ) (lines : List (List ℕ)) → (LastLineOpen file → ⊥) → (linesOf file ≡ lines) ↔ ((closed newline lines ≡ file) × FreeOf newline lines)
+lines-are file lines shut = subst (λ (l : List ℕ). (linesOf file ≡ lines) ↔ ((closed newline lines ≡ l) × FreeOf newline lines)) put-together (split-is newline (take (length file - 1) file) lines)
   where
     some-bytes : (l : List ℕ) → (l ≡ [] → ⊥) → 0 < length l
     some-bytes [] n = absurd (n refl)
     some-bytes (x ∷ xs) n = omega arith
 
-    last : Dec (getD file (length file - 1) 0 ≡ 10) → getD file (length file - 1) 0 ≡ 10
+    last : Dec (getD file (length file - 1) 0 ≡ newline) → getD file (length file - 1) 0 ≡ newline
     last (yes e) = e
     last (no n) = absurd (shut (inr n))
 
-    put-together : take (length file - 1) file ++ 10 ∷ [] ≡ file
+    put-together : take (length file - 1) file ++ newline ∷ [] ≡ file
     put-together =
         let n = length file - 1 in
         let more = some-bytes file (λ e. shut (inl e)) in
         let all : suc n ≡ length file = omega arith in
-        ap (λ (b : ℕ). take n file ++ b ∷ []) (sym (last (ℕ-discrete (getD file n 0) 10))) ∙ sym (take-suc file n 0 (omega arith)) ∙ ap (λ (k : ℕ). take k file) all ∙ take-length file
+        ap (λ (b : ℕ). take n file ++ b ∷ []) (sym (last (ℕ-discrete (getD file n 0) newline))) ∙ sym (take-suc file n 0 (omega arith)) ∙ ap (λ (k : ℕ). take k file) all ∙ take-length file

@@ -4,19 +4,18 @@ use mathlib.Core.Path.{_≡_, refl, sym, ap, _∙_}
 use mathlib.Core.Logic.{_⊎_, inl, inr, ⊎-elim, _↔_}
 use mathlib.Core.Bool.{true, false, true≢false}
 use mathlib.Core.List.{List, [], _∷_, _++_, List·Memᴰ·head, List·Memᴰ·tail, List·Memᴰ·not-nil, List·Memᴰ·cases-cons, List·Memᴰ·append-cases, Memᴰ·append-left, Memᴰ·append-right}
-use Prim.Native.Nat.{ℕ, suc}
+use Prim.Native.Nat.{ℕ}
 use native.Mathlib.Omega.{arith}
-use lib.Dec.{eqb}
 use lib.ListN.{length, take, drop, length-append}
 use lib.Seq.{take-append-seam}
-use borrow.Author.Tests.{eqb-true, not-false}
 use Rattle.wfsx.specs.Sets.{_isIn_}
 use Rattle.wfsx.specs.Program.{Rule}
 use Rattle.truth.proofs.Truth.{clash}
-use Rattle.scan.specs.Text.{fields, wordOf, nameWord, endWord}
+use Rattle.scan.specs.Text.{fields, wordOf, nameWord, endWord, comma}
 use Rattle.scan.specs.declared.Word.{Word}
 use Rattle.scan.specs.declared.Word.the-variants.{Name, Rule as RuleWord, End, Unknown}
 use Rattle.scan.proofs.Words.{IsWord, first-is, word-is}
+use Rattle.reader.proofs.FieldCounts.{end-fields}
 use Rattle.reader.specs.File.{Content, nothingYet, wrongFields, lineFault, extended, withLine, accepted, linesOf, readFile}
 use Rattle.reader.specs.Conditions.{_startsWith_, saidBy, closed}
 use Rattle.reader.proofs.Faults.{line-passes}
@@ -109,22 +108,19 @@ unfolding lineFault
 open-line d [] e = absurd (omega arith)
 open-line d (first ∷ others) e = line-passes d (wordOf first) others e .not-ended
 
-end-fields : (d : Content) (fs : List (List ℕ)) → lineFault d fs ≡ 0 → fs startsWith endWord → fs ≡ endWord ∷ []
-unfolding lineFault wrongFields
-end-fields d [] e s = absurd s
-end-fields d (first ∷ []) e s = ap (λ (f : List ℕ). f ∷ []) s
-end-fields d (first ∷ x ∷ xs) e s =
-    let c = line-passes d (wordOf first) (x ∷ xs) e in
-    let right : wrongFields End (x ∷ xs) ≡ false = rw (word-is End first s) at (c .right-fields) in
-    let none = eqb-true (suc (length xs)) 0 (not-false (eqb (suc (length xs)) 0) right) in
-    absurd (omega arith)
+end-only : (d : Content) (fs : List (List ℕ)) → lineFault d fs ≡ 0 → fs startsWith endWord → fs ≡ endWord ∷ []
+unfolding lineFault
+end-only d [] e s = absurd s
+end-only d (first ∷ others) e s =
+    let right : wrongFields End others ≡ false = rw (word-is End first s) at (line-passes d (wordOf first) others e .right-fields) in
+    rw (s, end-fields others right)
 
 end-alone : (line : List ℕ) → fields line ≡ endWord ∷ [] → line ≡ endWord
 unfolding closed
 end-alone line e =
-    let whole : endWord ++ 44 ∷ [] ≡ line ++ 44 ∷ [] = fields-are line (endWord ∷ []) .0 e .0 in
-    let size : length line ≡ 3 = omega (arith, ap length whole, length-append line (44 ∷ [])) in
-    sym (take-append-seam line (44 ∷ [])) ∙ ap (take (length line)) (sym whole) ∙ ap (λ (n : ℕ). take n (endWord ++ 44 ∷ [])) size
+    let whole : endWord ++ comma ∷ [] ≡ line ++ comma ∷ [] = fields-are line (endWord ∷ []) .0 e .0 in
+    let size : length line ≡ 3 = omega (arith, ap length whole, length-append line (comma ∷ [])) in
+    sym (take-append-seam line (comma ∷ [])) ∙ ap (take (length line)) (sym whole) ∙ ap (λ (n : ℕ). take n (endWord ++ comma ∷ [])) size
 
 -- `end` has not come in the lines before, and is the last line
 abbrev EndLast : Content → List (List ℕ) → Type 0
@@ -134,7 +130,7 @@ lines-end : (d : Content) (lines : List (List ℕ)) → d .ended ≡ false → F
 lines-end d [] u f e = absurd (clash e u)
 lines-end d (line ∷ []) u f e =
     let word = ⊎-elim (λ z. absurd (clash z u)) (λ s. s) (ended-line d (fields line) .0 e) in
-    ([], ap (λ (l : List ℕ). l ∷ []) (end-alone line (end-fields d (fields line) (f .0) word)), u)
+    ([], ap (λ (l : List ℕ). l ∷ []) (end-alone line (end-only d (fields line) (f .0) word)), u)
 lines-end d (line ∷ next ∷ lines) u f e =
     let now = withLine d (fields line) in
     let r = lines-end now (next ∷ lines) (open-line now (fields next) (f .1 .0)) (f .1) e in

@@ -1,27 +1,28 @@
 -- An accepted file is shorter than 60,000 bytes. A list is as long as its pieces and the stops between them, so a line with its last byte 10 has at
--- most 22 bytes where it is a name's, 23 and 19 for each body literal where it is a rule's, and 4 where it is `end`; and the tables bound how many
--- there are of each.
+-- most 6 bytes besides its name where it is a name's, 7 besides its head's name and 3 besides the name of each body literal where it is a rule's, and 4
+-- where it is `end`; and the tables bound how many there are of each.
 use mathlib.Core.Path.{_≡_, refl, ap, _∙_}
-use mathlib.Core.Bool.{Bool, true, false, not, cond, true≢false}
+use mathlib.Core.Bool.{Bool, true, false, not, cond}
 use mathlib.Core.List.{List, [], _∷_}
 use Prim.Native.Nat.{ℕ, zero, suc, _+_, _-_, _*_, _≤_, _<_, suc-le-suc}
 use native.Mathlib.Omega.{arith}
 use native.Mathlib.Nat.{mul-suc}
 use lib.Dec.{eqb}
 use lib.ListN.{length, take, drop, length-append, length-map, length-drop, length-take}
-use borrow.Author.Tests.{eqb-true, eqb-false, not-false}
+use borrow.Author.Tests.{eqb-false, not-false}
 use Rattle.wfsx.specs.Program.{Rule}
-use Rattle.truth.proofs.Truth.{and-l, and-r}
-use Rattle.scan.specs.Text.{onto, split, fields, isName, wordOf, tildes, minuses, nameOf, nameWord, ruleWord, endWord}
+use Rattle.truth.proofs.Truth.{and-l, and-r, neither, clash}
+use Rattle.scan.specs.Text.{onto, split, fields, isName, wordOf, tildes, minuses, nameOf, nameWord, ruleWord, endWord, comma, newline, maxLength}
 use Rattle.scan.specs.declared.Word.{Word}
 use Rattle.scan.specs.declared.Word.the-variants.{Name, Rule as RuleWord, End, Unknown}
 use Rattle.scan.proofs.Places.{split-none, split-stop, split-byte, split-some}
 use Rattle.scan.proofs.Bytes.{name-fits}
 use Rattle.scan.proofs.Words.{IsWord, first-is}
 use Rattle.scan.proofs.Forms.{lead-most}
-use Rattle.reader.specs.File.{Content, nothingYet, bodyLiterals, allFields, isLiteral, hasTilde, wrongFields, malformed, lineFault, entryFrom, ruleFrom, extended, withLine, accepted, maxBytes, linesOf, readFile}
+use Rattle.reader.proofs.FieldCounts.{name-fields, rule-fields, end-fields, unknown-wrong}
+use Rattle.reader.specs.File.{Content, nothingYet, bodyLiterals, allFields, isLiteral, hasTilde, malformed, lineFault, entryFrom, ruleFrom, extended, withLine, accepted, maxBytes, linesOf, readFile}
 use Rattle.reader.specs.Conditions.{saidBy}
-use Rattle.reader.proofs.Faults.{Passes, line-passes, neither}
+use Rattle.reader.proofs.Faults.{Passes, line-passes}
 use Rattle.reader.proofs.Lines.{Faultless, file-read}
 use Rattle.reader.proofs.Within.{Within, within-nothing, within-lines, literals-append}
 
@@ -48,17 +49,17 @@ split-total stop (x ∷ xs) = go (split-total stop xs) (eqb x stop) refl
 
 -- ---- literals
 
-literal-length : (f : List ℕ) → isLiteral f ≡ true → length f ≤ tildes f + 17
+literal-length : (f : List ℕ) → isLiteral f ≡ true → length f ≤ tildes f + (maxLength + 1)
 literal-length f e =
     let a = length-drop (minuses f) (drop (tildes f) f) in
     let b = length-drop (tildes f) f in
     let n = name-fits (nameOf f) e .1 in
     omega (arith, lead-most 45 (drop (tildes f) f))
 
-literal-short : (f : List ℕ) → isLiteral f ≡ true → length f < 19
+literal-short : (f : List ℕ) → isLiteral f ≡ true → length f < maxLength + 3
 literal-short f e = omega (arith, literal-length f e, lead-most 126 f)
 
-head-length : (f : List ℕ) → isLiteral f ≡ true → hasTilde f ≡ false → length f ≤ 17
+head-length : (f : List ℕ) → isLiteral f ≡ true → hasTilde f ≡ false → length f ≤ maxLength + 1
 head-length f e h = let z : tildes f ≡ 0 = none (tildes f) (lead-most 126 f) (eqb-false (tildes f) 1 h) in omega (arith, literal-length f e)
   where
     none : (n : ℕ) → n ≤ 1 → (n ≡ 1 → ⊥) → n ≡ 0
@@ -77,38 +78,36 @@ fields-total f k h (x ∷ xs) e =
 
 -- so many bytes at most have said d
 unfoldable pub weight : Content → ℕ
-weight d = 22 * length (d .names) + 23 * length (d .rules) + 19 * bodyLiterals (d .rules) + cond (d .ended) 4 0
+weight d = (maxLength + 6) * length (d .names) + (maxLength + 7) * length (d .rules) + (maxLength + 3) * bodyLiterals (d .rules) + cond (d .ended) 4 0
 
 module _ (d : Content) (first : List ℕ) where
   weight-name : (others : List (List ℕ)) → first ≡ nameWord → Passes d Name others → weight d + byteCount (first ∷ others) ≤ weight (extended d Name others)
-  unfolding extended wrongFields malformed byteCount weight
+  unfolding extended malformed byteCount weight
   weight-name others e c =
-      let one : length others ≡ 1 = eqb-true (length others) 1 (not-false (eqb (length others) 1) (c .right-fields)) in
-      let short = fields-total isName 17 (λ x h. suc-le-suc (name-fits x h .1)) others (not-false (allFields isName others) (c .well-formed)) in
+      let one = name-fields others (c .right-fields) in
+      let short = fields-total isName (maxLength + 1) (λ x h. suc-le-suc (name-fits x h .1)) others (not-false (allFields isName others) (c .well-formed)) in
       omega (arith, ap length e, length-append (d .names) others)
 
   weight-rule : (others : List (List ℕ)) → first ≡ ruleWord → Passes d RuleWord others → weight d + byteCount (first ∷ others) ≤ weight (extended d RuleWord others)
-  unfolding extended wrongFields malformed byteCount weight allFields bodyLiterals
-  weight-rule [] e c = absurd (true≢false (c .right-fields))
+  unfolding extended malformed byteCount weight allFields bodyLiterals
+  weight-rule [] e c = let some = rule-fields [] (c .right-fields) .0 in absurd (omega arith)
   weight-rule (h ∷ body) e c =
       let forms = neither (hasTilde h) (not (allFields isLiteral (h ∷ body))) (c .well-formed) in
       let all = not-false (allFields isLiteral (h ∷ body)) (forms .1) in
       let head-short = head-length h (and-l (isLiteral h) (allFields isLiteral body) all) (forms .0) in
-      let body-short = fields-total isLiteral 19 literal-short body (and-r (isLiteral h) (allFields isLiteral body) all) in
+      let body-short = fields-total isLiteral (maxLength + 3) literal-short body (and-r (isLiteral h) (allFields isLiteral body) all) in
       let new = ruleFrom (d .names) (h ∷ body) in
       omega (arith, ap length e, length-append (d .rules) new, literals-append (d .rules) new, length-map body (entryFrom (d .names)))
 
   weight-end : (others : List (List ℕ)) → first ≡ endWord → Passes d End others → weight d + byteCount (first ∷ others) ≤ weight (extended d End others)
-  unfolding extended wrongFields byteCount weight
-  weight-end [] e c = rw (c .not-ended) (omega (arith, ap length e))
-  weight-end (x ∷ xs) e c = let none = eqb-true (suc (length xs)) 0 (not-false (eqb (suc (length xs)) 0) (c .right-fields)) in absurd (omega arith)
+  unfolding extended byteCount weight
+  weight-end others e c = rw (end-fields others (c .right-fields), c .not-ended) (omega (arith, ap length e))
 
   weight-word : (w : Word) (others : List (List ℕ)) → IsWord w first → Passes d w others → weight d + byteCount (first ∷ others) ≤ weight (extended d w others)
-  unfolding wrongFields
   weight-word Name others e c = weight-name others e c
   weight-word RuleWord others e c = weight-rule others e c
   weight-word End others e c = weight-end others e c
-  weight-word Unknown others e c = absurd (true≢false (c .right-fields))
+  weight-word Unknown others e c = absurd (clash (unknown-wrong others) (c .right-fields))
 
 weight-fields : (d : Content) (fs : List (List ℕ)) → lineFault d fs ≡ 0 → weight d + byteCount fs ≤ weight (withLine d fs)
 unfolding lineFault withLine
@@ -120,15 +119,15 @@ unfolding byteCount
 weight-lines d [] f = omega arith
 weight-lines d (line ∷ lines) f =
     let here = weight-fields d (fields line) (f .0) in
-    omega (arith, split-total 44 line, weight-lines (withLine d (fields line)) lines (f .1))
+    omega (arith, split-total comma line, weight-lines (withLine d (fields line)) lines (f .1))
 
 -- ---- the file
 
-within-weight : (d : Content) → Within d → weight d ≤ 53508
+within-weight : (d : Content) → Within d → weight d < maxBytes
 unfolding weight
 within-weight d w = go (d .ended)
   where
-    go : (t : Bool) → 22 * length (d .names) + 23 * length (d .rules) + 19 * bodyLiterals (d .rules) + cond t 4 0 ≤ 53508
+    go : (t : Bool) → (maxLength + 6) * length (d .names) + (maxLength + 7) * length (d .rules) + (maxLength + 3) * bodyLiterals (d .rules) + cond t 4 0 < maxBytes
     go true = omega arith
     go false = omega arith
 
@@ -138,4 +137,4 @@ accepted-short file names rules e =
     let r = file-read file names rules e in
     let most = within-weight (saidBy nothingYet (linesOf file)) (within-lines nothingYet (linesOf file) within-nothing (r .lines-pass)) in
     let bytes = weight-lines nothingYet (linesOf file) (r .lines-pass) in
-    omega (arith, split-total 10 (take (length file - 1) file), length-take (length file - 1) file)
+    omega (arith, split-total newline (take (length file - 1) file), length-take (length file - 1) file)

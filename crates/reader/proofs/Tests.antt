@@ -8,42 +8,21 @@ use Prim.Native.Nat.{ℕ, suc, _+_, _-_, _≤_, _<_, suc-le-suc}
 use native.Mathlib.Omega.{arith}
 use lib.Dec.{eqb, leb, ltb}
 use lib.ListN.{length, getD, drop}
-use borrow.Author.Tests.{ltb-true, lt-ltb, leb-true, le-leb, eqb-true, eq-eqb, ne-eqb, not-true, not-false}
+use borrow.Author.Tests.{ltb-true, lt-ltb, leb-true, le-leb, eqb-true, eq-eqb, ne-eqb, not-false}
 use Rattle.wfsx.specs.Sets.{_isIn_}
-use Rattle.truth.proofs.Truth.{clash, refuted, not-intro, and-l, and-r, and-intro, or-elim, or-l, or-r}
-use Rattle.scan.specs.Text.{isText, classOf, isLetter, inName, allBytes, isName, lead, tildes, nameOf, nameWord, ruleWord, wordOf}
+use Rattle.truth.proofs.Truth.{clash, refuted, fails, or-is, and-is, not-is, leb-is, eqb-is, neither}
+use Rattle.scan.specs.Text.{isText, classOf, isLetter, inName, allBytes, isName, lead, tildes, nameOf, nameWord, ruleWord, wordOf, newline}
 use Rattle.scan.specs.declared.Class.the-variants.{Letter, Digit, Underscore, Other}
 use Rattle.scan.specs.declared.Word.{Word}
 use Rattle.scan.specs.declared.Word.the-variants.{Name, Rule as RuleWord, End, Unknown}
 use Rattle.scan.proofs.Bytes.{bytes-none, bytes-first, name-parts, parts-name}
 use Rattle.scan.proofs.Words.{IsWord, first-is, word-is}
-use Rattle.book.specs.Limits.{maxNames, maxRules, maxEntries}
+use Rattle.book.specs.Limits.{maxNames, maxRules, maxEntries, maxBody}
 use Rattle.book.specs.Book.{sameName, findFrom}
-use Rattle.book.proofs.Lookup.{same-is-equal, find-none, find-first, find-later}
-use Rattle.reader.specs.File.{Content, bodyLiterals, allFields, isLiteral, hasTilde, isFound, declared, wrongFields, headTilde, malformed, declaredBefore, usesUndeclared, beyondTable, maxBytes, unended}
-use Rattle.reader.specs.Conditions.{LetterByte, NameByte, NameText, Optional, LiteralText, TooLong, StrangeByte, LastLineOpen, SomeField, FieldsWrong, FormWrong, NameTaken, NameMissing, TableFull}
-use Rattle.reader.proofs.Faults.{neither, each-field, each-passes, all-pass, fails-where, no-entries}
-
--- ---- decided statements
-
--- where a test decides P, its failure is that P does not hold
-pub fails : (b : Bool) {P : Type 0} → ((b ≡ true) ↔ P) → (b ≡ false) ↔ (P → ⊥)
-fails b d = (λ e p. clash (d .1 p) e, λ n. refuted (λ e. n (d .0 e)))
-
-or-is : (a b : Bool) {P Q : Type 0} → ((a ≡ true) ↔ P) → ((b ≡ true) ↔ Q) → (a || b ≡ true) ↔ (P ⊎ Q)
-or-is a b p q = (λ e. ⊎-elim (λ h. inl (p .0 h)) (λ h. inr (q .0 h)) (or-elim a b e), ⊎-elim (λ h. or-l a b (p .1 h)) (λ h. or-r a b (q .1 h)))
-
-and-is : (a b : Bool) {P Q : Type 0} → ((a ≡ true) ↔ P) → ((b ≡ true) ↔ Q) → (a && b ≡ true) ↔ (P × Q)
-and-is a b p q = (λ e. (p .0 (and-l a b e), q .0 (and-r a b e)), λ h. and-intro a b (p .1 (h .0)) (q .1 (h .1)))
-
-not-is : (b : Bool) {P : Type 0} → ((b ≡ true) ↔ P) → (not b ≡ true) ↔ (P → ⊥)
-not-is b d = (λ e. fails b d .0 (not-true b e), λ n. not-intro (fails b d .1 n))
-
-leb-is : (a b : ℕ) → (leb a b ≡ true) ↔ (a ≤ b)
-leb-is a b = (leb-true a b, le-leb a b)
-
-eqb-is : (a b : ℕ) → (eqb a b ≡ true) ↔ (a ≡ b)
-eqb-is a b = (eqb-true a b, eq-eqb a b)
+use Rattle.book.proofs.Lookup.{same-decides, find-none, find-first, find-later}
+use Rattle.reader.specs.File.{Content, bodyLiterals, allFields, isLiteral, hasTilde, isFound, declared, wrongFields, headTilde, malformed, declaredBefore, usesUndeclared, beyondTable, maxBytes, unended, isKnown}
+use Rattle.reader.specs.Conditions.{LetterByte, NameByte, NameText, Optional, LiteralText, TooLong, StrangeByte, LastLineOpen, SomeField, FieldsWrong, FormWrong, Declared, NameTaken, NameMissing, TableFull}
+use Rattle.reader.proofs.Faults.{each-field, each-passes, all-pass, fails-where, no-entries}
 
 -- ---- numbers 1 to 3
 
@@ -52,16 +31,16 @@ too-long file = (ltb-true maxBytes (length file), lt-ltb maxBytes (length file))
 
 pub strange-byte : (file : List ℕ) → (not (allBytes isText file) ≡ true) ↔ StrangeByte file
 strange-byte file =
-    fails-where isText (allBytes isText) (bytes-none isText) (bytes-first isText) file (λ b. (b ≡ 10) ⊎ ((32 ≤ b) × (b ≤ 126)) → ⊥) (λ b m. fails (isText b) (text b))
+    fails-where isText (allBytes isText) (bytes-none isText) (bytes-first isText) file (λ b. (b ≡ newline) ⊎ ((32 ≤ b) × (b ≤ 126)) → ⊥) (λ b m. fails (isText b) (text b))
   where
-    text : (b : ℕ) → (isText b ≡ true) ↔ ((b ≡ 10) ⊎ ((32 ≤ b) × (b ≤ 126)))
-    text b = or-is (eqb b 10) (leb 32 b && leb b 126) (eqb-is b 10) (and-is (leb 32 b) (leb b 126) (leb-is 32 b) (leb-is b 126))
+    text : (b : ℕ) → (isText b ≡ true) ↔ ((b ≡ newline) ⊎ ((32 ≤ b) × (b ≤ 126)))
+    text b = or-is (eqb b newline) (leb 32 b && leb b 126) (eqb-is b newline) (and-is (leb 32 b) (leb b 126) (leb-is 32 b) (leb-is b 126))
 
 pub last-open : (file : List ℕ) → (unended file ≡ true) ↔ LastLineOpen file
 last-open file =
     let last = getD file (length file - 1) 0 in
-    or-is (eqb (length file) 0) (not (eqb last 10)) (λ e. no-entries file (eqb-true (length file) 0 e), λ e. eq-eqb (length file) 0 (ap length e))
-    (not-is (eqb last 10) (eqb-is last 10))
+    or-is (eqb (length file) 0) (not (eqb last newline)) (λ e. no-entries file (eqb-true (length file) 0 e), λ e. eq-eqb (length file) 0 (ap length e))
+    (not-is (eqb last newline) (eqb-is last newline))
 
 -- ---- names and literals
 
@@ -151,18 +130,18 @@ not-literal f =
 
 -- ---- declared names
 
-found-is : (k : ℕ) (n : List ℕ) (names : List (List ℕ)) → (isFound (findFrom k n names) ≡ true) ↔ (n isIn names)
-found-is k n [] = rw (find-none k n) (λ e. absurd (true≢false (sym e)), λ m. absurd (List·Memᴰ·not-nil m))
+found-is : (k : ℕ) (n : List ℕ) (names : List (List ℕ)) → (isFound (findFrom k n names) ≡ true) ↔ Declared names n
+found-is k n [] = rw (find-none k n) (λ e. absurd (true≢false (sym e)), λ s. absurd (List·Memᴰ·not-nil (s .1)))
 found-is k n (m ∷ ms) = go (found-is (suc k) n ms) (sameName m n) refl
   where
-    go : ((isFound (findFrom (suc k) n ms) ≡ true) ↔ (n isIn ms)) → (t : Bool) → sameName m n ≡ t → (isFound (findFrom k n (m ∷ ms)) ≡ true) ↔ (n isIn m ∷ ms)
-    go rest true p = rw (find-first k n m ms p) (λ e. List·Memᴰ·head (sym (same-is-equal m n .0 p)), λ i. refl)
+    go : ((isFound (findFrom (suc k) n ms) ≡ true) ↔ Declared ms n) → (t : Bool) → sameName m n ≡ t → (isFound (findFrom k n (m ∷ ms)) ≡ true) ↔ Declared (m ∷ ms) n
+    go rest true p = rw (find-first k n m ms p) (λ e. (m, List·Memᴰ·head refl, same-decides m n .0 p), λ s. refl)
     go rest false p = rw (find-later k n m ms p) (
-      λ e. List·Memᴰ·tail (rest .0 e),
-      λ i. ⊎-elim (λ e. absurd (clash (same-is-equal m n .1 (sym e)) p)) (rest .1) (List·Memᴰ·cases-cons i),
+      λ e. let s = rest .0 e in (s .0, List·Memᴰ·tail (s .1), s .2),
+      λ s. ⊎-elim (λ e. absurd (clash (same-decides m n .1 (rw e at (s .2))) p)) (λ i. rest .1 (s .0, i, s .2)) (List·Memᴰ·cases-cons (s .1)),
     )
 
-pub declared-is : (names : List (List ℕ)) (n : List ℕ) → (declared names n ≡ true) ↔ (n isIn names)
+pub declared-is : (names : List (List ℕ)) (n : List ℕ) → (declared names n ≡ true) ↔ Declared names n
 declared-is names n = found-is 0 n names
 
 -- ---- numbers 4 to 8, by the first field
@@ -178,10 +157,10 @@ module _ (first : List ℕ) (others : List (List ℕ)) where
       by-name : (not (eqb n 1) ≡ true) ↔ (suc n ≡ 2 → ⊥)
       by-name = not-is (eqb n 1) (λ e. ap suc (eqb-true n 1 e), λ e. eq-eqb n 1 (omega arith))
 
-      by-rule : (not (leb 1 n && leb n 17) ≡ true) ↔ ((2 ≤ suc n) × (suc n ≤ 18) → ⊥)
+      by-rule : (not (leb 1 n && leb n (maxBody + 1)) ≡ true) ↔ ((2 ≤ suc n) × (suc n ≤ maxBody + 2) → ⊥)
       by-rule =
-          not-is (leb 1 n && leb n 17)
-          (and-is (leb 1 n) (leb n 17) (λ e. suc-le-suc (leb-true 1 n e), λ h. le-leb 1 n (omega arith)) (λ e. suc-le-suc (leb-true n 17 e), λ h. le-leb n 17 (omega arith)))
+          not-is (leb 1 n && leb n (maxBody + 1))
+          (and-is (leb 1 n) (leb n (maxBody + 1)) (λ e. suc-le-suc (leb-true 1 n e), λ h. le-leb 1 n (omega arith)) (λ e. suc-le-suc (leb-true n (maxBody + 1) e), λ h. le-leb n (maxBody + 1) (omega arith)))
 
       by-end : (not (eqb n 0) ≡ true) ↔ (suc n ≡ 1 → ⊥)
       by-end = not-is (eqb n 0) (λ e. ap suc (eqb-true n 0 e), λ e. eq-eqb n 0 (omega arith))
@@ -243,12 +222,11 @@ module _ (first : List ℕ) (others : List (List ℕ)) where
     where
       one : (declaredBefore d (wordOf first) others ≡ true) ↔ (NameTaken d (first ∷ others) ⊎ ((first ≡ ruleWord) × ⊥))
       one =
-          named-or-ruled (λ w. declaredBefore d w others) refl refl (some-field (λ n. not (declared (d .names) n)) (λ n. n isIn d .names) (λ n m. before n))
+          named-or-ruled (λ w. declaredBefore d w others) refl refl (some-field (λ n. not (declared (d .names) n)) (Declared (d .names)) (λ n m. before n))
           (λ s. (λ e. true≢false (sym e), λ z. absurd z))
         where
-          before : (n : List ℕ) → (not (declared (d .names) n) ≡ false) ↔ (n isIn d .names)
-          before n =
-              (λ e. declared-is (d .names) n .0 (not-false (declared (d .names) n) e), λ m. ap not (declared-is (d .names) n .1 m))
+          before : (n : List ℕ) → (not (declared (d .names) n) ≡ false) ↔ Declared (d .names) n
+          before n = (λ e. declared-is (d .names) n .0 (not-false (declared (d .names) n) e), λ m. ap not (declared-is (d .names) n .1 m))
 
   pub name-missing : (d : Content) → malformed (wordOf first) others ≡ false → (usesUndeclared d (wordOf first) others ≡ true) ↔ NameMissing d (first ∷ others)
   unfolding usesUndeclared malformed
@@ -257,7 +235,7 @@ module _ (first : List ℕ) (others : List (List ℕ)) where
       literals : first ≡ ruleWord → allFields isLiteral others ≡ true
       literals s = not-false (allFields isLiteral others) (neither (headTilde others) (not (allFields isLiteral others)) (rw (word-is RuleWord first s) at formed) .1)
 
-      missing : (f : List ℕ) → isLiteral f ≡ true → (declared (d .names) (nameOf f) ≡ false) ↔ ((n : List ℕ) × LiteralText f n × (n isIn d .names → ⊥))
+      missing : (f : List ℕ) → isLiteral f ≡ true → (declared (d .names) (nameOf f) ≡ false) ↔ ((n : List ℕ) × LiteralText f n × (Declared (d .names) n → ⊥))
       missing f l =
           let failed = fails (declared (d .names) (nameOf f)) (declared-is (d .names) (nameOf f)) in
           (λ e. (nameOf f, literal-is f .0 l, failed .0 e), λ r. failed .1 (rw (literal-name f (r .0) (r .1)) (r .2)))
@@ -265,7 +243,7 @@ module _ (first : List ℕ) (others : List (List ℕ)) where
       one : (usesUndeclared d (wordOf first) others ≡ true) ↔ (((first ≡ nameWord) × ⊥) ⊎ NameMissing d (first ∷ others))
       one =
           named-or-ruled (λ w. usesUndeclared d w others) refl refl (λ e. true≢false (sym e), λ z. absurd z)
-          (λ s. some-field (λ f. declared (d .names) (nameOf f)) (λ f. (n : List ℕ) × LiteralText f n × (n isIn d .names → ⊥))
+          (λ s. some-field (isKnown (d .names)) (λ f. (n : List ℕ) × LiteralText f n × (Declared (d .names) n → ⊥))
           (λ f m. missing f (each-field isLiteral m (literals s))))
 
   pub table-full : (d : Content) → (beyondTable d (wordOf first) others ≡ true) ↔ TableFull d (first ∷ others)

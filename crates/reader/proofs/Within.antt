@@ -2,27 +2,30 @@
 -- adds. So an accepted file is within them too.
 use mathlib.Core.Path.{_≡_, refl, sym, ap, _∙_, subst}
 use mathlib.Core.Logic.{⊎-elim}
-use mathlib.Core.Bool.{Bool, true, false, cond, _&&_, true≢false}
+use mathlib.Core.Bool.{Bool, true, false, cond, true≢false}
 use mathlib.Core.List.{List, [], _∷_, _++_, map, List·Memᴰ·head, List·Memᴰ·tail, List·Memᴰ·not-nil, List·Memᴰ·append-cases, List·Memᴰ·eq-of-singleton, Memᴰ·of-map}
 use Prim.Native.Nat.{ℕ, suc, _+_, _-_, _*_, _≤_, _<_}
 use native.Mathlib.Omega.{arith}
-use lib.Dec.{eqb, leb, ltb}
+use lib.Dec.{leb, ltb}
 use lib.ListN.{length, drop, length-append, length-map}
-use borrow.Author.Tests.{leb-true, leb-false, ltb-false, eqb-true, not-false}
+use borrow.Author.Tests.{leb-false, ltb-false, not-false}
 use Rattle.wfsx.specs.Sets.{_isIn_}
 use Rattle.wfsx.specs.Program.{Entry, positive, default, Rule}
-use Rattle.truth.proofs.Truth.{and-r}
-use Rattle.scan.specs.Text.{fields, isName, wordOf, tildes, nameOf}
+use Rattle.truth.proofs.Truth.{neither}
+use Rattle.scan.specs.Text.{fields, isName, wordOf, tildes, nameOf, minuses}
 use Rattle.scan.specs.declared.Word.{Word}
 use Rattle.scan.specs.declared.Word.the-variants.{Name, Rule as RuleWord, End, Unknown}
 use Rattle.scan.proofs.Forms.{lead-most}
-use Rattle.book.specs.Limits.{maxNames, maxRules, maxEntries}
-use Rattle.book.specs.Book.{sameName, findFrom}
-use Rattle.book.proofs.Lookup.{find-none, find-first, find-later}
+use Rattle.book.specs.Limits.{maxNames, maxRules, maxEntries, maxBody}
+use Rattle.book.specs.Book.{find}
+use Rattle.book.proofs.Lookup.{found-below}
 use Rattle.book.proofs.Back.{literalIn}
-use Rattle.reader.specs.File.{Content, nothingYet, bodyLiterals, allFields, isFound, declared, wrongFields, malformed, usesUndeclared, beyondTable, lineFault, numberIn, literalNumber, entryFrom, hasTilde, ruleFrom, extended, withLine, accepted, linesOf, readFile}
+use Rattle.book.specs.declared.Found.{Found}
+use Rattle.book.specs.declared.Found.the-variants.{Nothing, At}
+use Rattle.reader.proofs.FieldCounts.{name-fields, rule-fields}
+use Rattle.reader.specs.File.{Content, nothingYet, bodyLiterals, allFields, isFound, declared, malformed, usesUndeclared, beyondTable, lineFault, numberIn, literalNumber, entryFrom, hasTilde, ruleFrom, extended, withLine, accepted, linesOf, readFile}
 use Rattle.reader.specs.Conditions.{saidBy}
-use Rattle.reader.proofs.Faults.{Passes, line-passes, neither, each-field}
+use Rattle.reader.proofs.Faults.{Passes, line-passes, each-field}
 use Rattle.reader.proofs.Lines.{Faultless, file-read}
 
 pub record Within (d : Content) : Type 0 where
@@ -30,25 +33,19 @@ pub record Within (d : Content) : Type 0 where
   pub names-fit : (n : List ℕ) → n isIn d .names → isName n ≡ true
   pub few-rules : length (d .rules) ≤ maxRules
   pub few-literals : bodyLiterals (d .rules) ≤ maxEntries
-  pub bodies-fit : (r : Rule) → r isIn d .rules → length (r .body) ≤ 16
+  pub bodies-fit : (r : Rule) → r isIn d .rules → length (r .body) ≤ maxBody
   pub heads-known : (r : Rule) → r isIn d .rules → r .head < 2 * length (d .names)
   pub entries-known : (r : Rule) → r isIn d .rules → (e : Entry) → e isIn r .body → literalIn e < 2 * length (d .names)
 
 -- ---- names, literals and rules one by one
 
--- a name that is found has a number below the count of names
-pub found-below : (k : ℕ) (n : List ℕ) (names : List (List ℕ)) → isFound (findFrom k n names) ≡ true → numberIn (findFrom k n names) < k + length names
-found-below k n [] e = absurd (true≢false (sym (rw (find-none k n) at e)))
-found-below k n (m ∷ ms) e = go (found-below (suc k) n ms) (sameName m n) refl e
-  where
-    go : (isFound (findFrom (suc k) n ms) ≡ true → numberIn (findFrom (suc k) n ms) < suc k + length ms) → (t : Bool) → sameName m n ≡ t
-        → isFound (findFrom k n (m ∷ ms)) ≡ true → numberIn (findFrom k n (m ∷ ms)) < k + suc (length ms)
-    go rest true p = rw (find-first k n m ms p) (λ h. omega arith)
-    go rest false p = rw (find-later k n m ms p) (λ h. omega (arith, rest h))
-
 pub literal-below : (names : List (List ℕ)) (f : List ℕ) → declared names (nameOf f) ≡ true → literalNumber names f < 2 * length names
 unfolding literalNumber
-literal-below names f e = omega (arith, found-below 0 (nameOf f) names e, lead-most 45 (drop (tildes f) f))
+literal-below names f e = go (find names (nameOf f)) refl e
+  where
+    go : (x : Found) → find names (nameOf f) ≡ x → isFound x ≡ true → 2 * numberIn (find names (nameOf f)) + minuses f < 2 * length names
+    go Nothing q t = absurd (true≢false (sym t))
+    go (At i) q t = omega (arith, ap numberIn q, found-below 0 (nameOf f) names i q, lead-most 45 (drop (tildes f) f))
 
 entry-literal : (names : List (List ℕ)) (f : List ℕ) → literalIn (entryFrom names f) ≡ literalNumber names f
 unfolding entryFrom
@@ -83,9 +80,9 @@ one-more P {l} {x} f p y m = ⊎-elim (f y) (λ i. subst P (sym (List·Memᴰ·e
 
 module _ (d : Content) (w : Within d) where
   within-name : (others : List (List ℕ)) → Passes d Name others → Within (extended d Name others)
-  unfolding extended wrongFields malformed beyondTable
+  unfolding extended malformed beyondTable
   within-name others c =
-      let one : length others ≡ 1 = eqb-true (length others) 1 (not-false (eqb (length others) 1) (c .right-fields)) in
+      let one = name-fields others (c .right-fields) in
       let room : length (d .names) < maxNames = leb-false maxNames (length (d .names)) (c .in-table) in
       let named : allFields isName others ≡ true = not-false (allFields isName others) (c .well-formed) in
       let grown : length (d .names ++ others) ≡ length (d .names) + 1 = length-append (d .names) others ∙ ap (λ (k : ℕ). length (d .names) + k) one in
@@ -100,12 +97,10 @@ module _ (d : Content) (w : Within d) where
       }
 
   within-rule : (others : List (List ℕ)) → Passes d RuleWord others → Within (extended d RuleWord others)
-  unfolding extended wrongFields beyondTable usesUndeclared bodyLiterals
-  within-rule [] c = absurd (true≢false (c .right-fields))
+  unfolding extended beyondTable usesUndeclared bodyLiterals
+  within-rule [] c = let some = rule-fields [] (c .right-fields) .0 in absurd (omega arith)
   within-rule (h ∷ body) c =
-      let some = leb 1 (suc (length body)) in
-      let most = leb (suc (length body)) 17 in
-      let few : suc (length body) ≤ 17 = leb-true (suc (length body)) 17 (and-r some most (not-false (some && most) (c .right-fields))) in
+      let few = rule-fields (h ∷ body) (c .right-fields) .1 in
       let full = leb maxRules (length (d .rules)) in
       let long = ltb maxEntries (bodyLiterals (d .rules) + (suc (length body) - 1)) in
       let room : length (d .rules) < maxRules = leb-false maxRules (length (d .rules)) (neither full long (c .in-table) .0) in
@@ -127,7 +122,7 @@ module _ (d : Content) (w : Within d) where
         names-fit = w .names-fit;
         few-rules = omega arith;
         few-literals = omega arith;
-        bodies-fit = one-more (λ r. length (r .body) ≤ 16) (w .bodies-fit) (omega arith);
+        bodies-fit = one-more (λ r. length (r .body) ≤ maxBody) (w .bodies-fit) (omega arith);
         heads-known = one-more (λ r. r .head < 2 * length (d .names)) (w .heads-known) head-known;
         entries-known = one-more (λ r. (e : Entry) → e isIn r .body → literalIn e < 2 * length (d .names)) (w .entries-known) entry-known;
       }

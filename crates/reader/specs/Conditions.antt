@@ -9,8 +9,9 @@ use Prim.Native.Nat.{ℕ, _+_, _-_, _≤_, _<_}
 use lib.ListN.{length, getD, drop}
 use Rattle.wfsx.specs.Sets.{_isIn_}
 use Rattle.wfsx.specs.Program.{Rule}
-use Rattle.scan.specs.Text.{fields, nameWord, ruleWord, endWord}
-use Rattle.book.specs.Limits.{maxNames, maxRules, maxEntries, maxLength}
+use Rattle.scan.specs.Text.{fields, nameWord, ruleWord, endWord, newline, maxLength}
+use Rattle.book.specs.Limits.{maxNames, maxRules, maxEntries, maxBody}
+use Rattle.book.specs.Book.{SameName}
 use Rattle.reader.specs.File.{Content, nothingYet, bodyLiterals, withLine, maxBytes, linesOf}
 
 -- ---- names and literals
@@ -44,11 +45,11 @@ TooLong file = maxBytes < length file
 
 -- 2: a byte that is neither 10 nor 32 to 126
 abbrev pub StrangeByte : List ℕ → Type 0
-StrangeByte file = (b : ℕ) × (b isIn file) × ((b ≡ 10) ⊎ ((32 ≤ b) × (b ≤ 126)) → ⊥)
+StrangeByte file = (b : ℕ) × (b isIn file) × ((b ≡ newline) ⊎ ((32 ≤ b) × (b ≤ 126)) → ⊥)
 
 -- 3: no bytes, or the last byte isn't 10
 abbrev pub LastLineOpen : List ℕ → Type 0
-LastLineOpen file = (file ≡ []) ⊎ (getD file (length file - 1) 0 ≡ 10 → ⊥)
+LastLineOpen file = (file ≡ []) ⊎ (getD file (length file - 1) 0 ≡ newline → ⊥)
 
 -- ---- numbers 4 to 9, of the fields of a line, where the lines before it have said d
 
@@ -69,7 +70,7 @@ AfterEnd d = d .ended ≡ true
 abbrev pub FieldsWrong : List (List ℕ) → Type 0
 FieldsWrong fs =
     ((fs startsWith nameWord → ⊥) × (fs startsWith ruleWord → ⊥) × (fs startsWith endWord → ⊥)) ⊎ ((fs startsWith nameWord) × (length fs ≡ 2 → ⊥))
-    ⊎ ((fs startsWith ruleWord) × ((2 ≤ length fs) × (length fs ≤ 18) → ⊥)) ⊎ ((fs startsWith endWord) × (length fs ≡ 1 → ⊥))
+    ⊎ ((fs startsWith ruleWord) × ((2 ≤ length fs) × (length fs ≤ maxBody + 2) → ⊥)) ⊎ ((fs startsWith endWord) × (length fs ≡ 1 → ⊥))
 
 -- 5: a malformed name or literal, or a head with `~`
 abbrev pub FormWrong : List (List ℕ) → Type 0
@@ -77,13 +78,17 @@ FormWrong fs =
     ((fs startsWith nameWord) × SomeField fs (λ n. NameText n → ⊥))
     ⊎ ((fs startsWith ruleWord) × (((rest : List ℕ) × (getD fs 1 [] ≡ 126 ∷ rest)) ⊎ SomeField fs (λ f. (n : List ℕ) → LiteralText f n → ⊥)))
 
+-- one of the names declared before is the same name as n
+abbrev pub Declared : List (List ℕ) → List ℕ → Type 0
+Declared names n = (m : List ℕ) × (m isIn names) × SameName m n
+
 -- 6: a name declared before
 abbrev pub NameTaken : Content → List (List ℕ) → Type 0
-NameTaken d fs = (fs startsWith nameWord) × SomeField fs (λ n. n isIn d .names)
+NameTaken d fs = (fs startsWith nameWord) × SomeField fs (Declared (d .names))
 
 -- 7: a rule uses an undeclared name
 abbrev pub NameMissing : Content → List (List ℕ) → Type 0
-NameMissing d fs = (fs startsWith ruleWord) × SomeField fs (λ f. (n : List ℕ) × LiteralText f n × (n isIn d .names → ⊥))
+NameMissing d fs = (fs startsWith ruleWord) × SomeField fs (λ f. (n : List ℕ) × LiteralText f n × (Declared (d .names) n → ⊥))
 
 -- 8: one name, rule or body literal beyond the table
 abbrev pub TableFull : Content → List (List ℕ) → Type 0

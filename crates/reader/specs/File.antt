@@ -6,10 +6,10 @@ use Prim.Native.Nat.{ℕ, _+_, _-_, _*_}
 use lib.Dec.{eqb, leb, ltb}
 use lib.ListN.{length, getD, take}
 use Rattle.wfsx.specs.Program.{Entry, positive, default, Rule}
-use Rattle.scan.specs.Text.{isText, allBytes, split, fields, isName, wordOf, tildes, minuses, nameOf}
+use Rattle.scan.specs.Text.{isText, allBytes, split, fields, isName, wordOf, tildes, minuses, nameOf, newline}
 use Rattle.scan.specs.declared.Word.{Word}
 use Rattle.scan.specs.declared.Word.the-variants.{Name, Rule as RuleWord, End, Unknown}
-use Rattle.book.specs.Limits.{maxNames, maxRules, maxEntries}
+use Rattle.book.specs.Limits.{maxNames, maxRules, maxEntries, maxBody}
 use Rattle.book.specs.Book.{find}
 use Rattle.book.specs.declared.Found.{Found}
 use Rattle.book.specs.declared.Found.the-variants.{Nothing, At}
@@ -49,12 +49,16 @@ isFound (At i) = true
 abbrev pub declared : List (List ℕ) → List ℕ → Bool
 declared names n = isFound (find names n)
 
+-- a field whose name an earlier line declares
+abbrev pub isKnown : List (List ℕ) → List ℕ → Bool
+isKnown names f = declared names (nameOf f)
+
 -- ---- the conditions of the table, over the first field and the others
 
 -- 4: an unknown first field, or a wrong count of fields (name 2, rule 2 to 18, end 1)
 unfoldable pub wrongFields : Word → List (List ℕ) → Bool
 wrongFields Name others = not (eqb (length others) 1)
-wrongFields RuleWord others = not (leb 1 (length others) && leb (length others) 17)
+wrongFields RuleWord others = not (leb 1 (length others) && leb (length others) (maxBody + 1))
 wrongFields End others = not (eqb (length others) 0)
 wrongFields Unknown others = true
 
@@ -80,7 +84,7 @@ declaredBefore d Unknown others = false
 -- 7: a rule uses an undeclared name
 unfoldable pub usesUndeclared : Content → Word → List (List ℕ) → Bool
 usesUndeclared d Name others = false
-usesUndeclared d RuleWord others = not (allFields (λ f. declared (d .names) (nameOf f)) others)
+usesUndeclared d RuleWord others = not (allFields (isKnown (d .names)) others)
 usesUndeclared d End others = false
 usesUndeclared d Unknown others = false
 
@@ -159,11 +163,11 @@ maxBytes = 60000
 
 -- 3: no bytes, or the last byte isn't 10
 abbrev pub unended : List ℕ → Bool
-unended file = eqb (length file) 0 || not (eqb (getD file (length file - 1) 0) 10)
+unended file = eqb (length file) 0 || not (eqb (getD file (length file - 1) 0) newline)
 
 -- each line ends in byte 10, so the last one's is left out
 abbrev pub linesOf : List ℕ → List (List ℕ)
-linesOf file = split 10 (take (length file - 1) file)
+linesOf file = split newline (take (length file - 1) file)
 
 -- numbers 1 to 3 look at the whole file in this order, with line 0
 unfoldable pub readFile : List ℕ → Outcome

@@ -1,79 +1,67 @@
--- What the reader's own functions tell each other: the tables that hold what has been read, and the fault of a name's and of a rule's line. The
--- contract of `read` cites none of this.
+-- What the reader's own functions tell each other: the counts and the tables of what has been read, and what a line does to them. The contract of `read`
+-- cites none of this.
 use mathlib.Core.Path.{_≡_}
-use mathlib.Core.Bool.{false, not, _||_}
-use mathlib.Core.List.{List, [], _∷_, _++_}
-use Prim.Native.Nat.{ℕ, _+_, _-_, _*_, _≤_}
-use lib.Dec.{leb, ltb}
+use mathlib.Core.Bool.{Bool, true, false}
+use mathlib.Core.List.{List, map}
+use Prim.Native.Nat.{ℕ, _+_, _*_, _≤_}
 use lib.ListN.{length}
+use lib.Seq.{sets}
 use Rattle.wfsx.specs.Sets.{_isIn_}
 use Rattle.wfsx.specs.Program.{Rule}
-use Rattle.scan.specs.Text.{isName, tildes, minuses, nameOf}
+use Rattle.scan.specs.Text.{maxLength, tildes, minuses, nameOf}
 use Rattle.scan.specs.declared.Word.{Word}
-use Rattle.book.specs.Limits.{maxNames, maxRules, maxEntries, maxLength}
-use Rattle.book.specs.Book.{find, textTable, lengthTable, headTable, startTable, entryTable}
+use Rattle.book.specs.Limits.{maxNames, maxRules, maxEntries}
+use Rattle.book.specs.Book.{clamp, namesIn, find, codeOf, textTable, lengthTable, headTable, startTable, entryTable}
 use Rattle.book.specs.declared.Found.{Found}
 use Rattle.book.specs.declared.Found.the-variants.{Nothing, At}
-use Rattle.reader.specs.File.{Content, bodyLiterals, allFields, isLiteral, declared, headTilde, _when_else_, ruleFrom, faultOf, extended}
+use Rattle.reader.specs.File.{Content, bodyLiterals, allFields, isKnown, faultOf, lineFault, entryFrom, extended, withLine}
 use Rattle.reader.specs.declared.Counts.{Counts}
 use Rattle.reader.specs.declared.LineAnswer.{LineAnswer}
 use Rattle.reader.specs.declared.LineAnswer.the-variants.{Fine, Fault}
 use Rattle.reader.specs.declared.Known.{Known}
 use Rattle.reader.specs.declared.Known.the-variants.{Undeclared, Entry}
 
--- ---- the tables hold what has been read
-
-pub record NameTable (names : List (List ℕ)) (count : ℕ) (text lengths : List ℕ) : Type 0 where
-  pub counted : count ≡ length names
-  pub text-is : text ≡ textTable names
-  pub lengths-are : lengths ≡ lengthTable names
-  pub few : length names ≤ maxNames
-  pub short : (n : List ℕ) → n isIn names → length n ≤ maxLength
-
-pub record RuleTable (rules : List Rule) (count used : ℕ) (heads starts entries : List ℕ) : Type 0 where
-  pub counted : count ≡ length rules
-  pub used-is : used ≡ bodyLiterals rules
-  pub heads-are : heads ≡ headTable rules
-  pub starts-are : starts ≡ startTable rules
-  pub entries-are : entries ≡ entryTable rules
-  pub few : length rules ≤ maxRules
-  pub room : used ≤ maxEntries
-
-pub record Holds (d : Content) (t : Counts) (text lengths heads starts entries : List ℕ) : Type 0 where
-  pub names-held : NameTable (d .names) (t .names) text lengths
-  pub rules-held : RuleTable (d .rules) (t .rules) (t .used) heads starts entries
-  pub ended-is : t .ended ≡ d .ended
+-- ---- what has been read
 
 abbrev pub noCounts : Counts
 noCounts = record { names = 0; rules = 0; used = 0; ended = false }
 
--- ---- the fault of a line whose first field and count of fields are right
+-- counts that the tables have room for
+pub record Fits (t : Counts) : Type 0 where
+  pub few-names : t .names ≤ maxNames
+  pub few-rules : t .rules ≤ maxRules
+  pub few-literals : t .used ≤ maxEntries
 
-abbrev pub nameFault : List (List ℕ) → List ℕ → ℕ
-nameFault names n =
-    5 when not (isName n)
-    else 6 when declared names n
-    else 8 when leb maxNames (length names)
-    else 0
+-- the counts are those of d
+pub record Counted (d : Content) (t : Counts) : Type 0 where
+  pub names-are : t .names ≡ length (d .names)
+  pub rules-are : t .rules ≡ length (d .rules)
+  pub used-are : t .used ≡ bodyLiterals (d .rules)
+  pub ended-is : t .ended ≡ d .ended
+  pub fits : Fits t
 
--- 5 where a field is malformed
-abbrev pub formFault : List (List ℕ) → ℕ
-formFault fs = 5 when not (allFields isLiteral fs) else 0
+-- the tables have the names
+pub record NameTable (names : List (List ℕ)) (text lengths : List ℕ) : Type 0 where
+  pub text-is : text ≡ textTable names
+  pub lengths-are : lengths ≡ lengthTable names
+  pub short : (n : List ℕ) → n isIn names → length n ≤ maxLength
 
--- 5 where the head of a rule has a `~`, or a field is malformed
-abbrev pub ruleForm : List (List ℕ) → ℕ
-ruleForm fs = 5 when headTilde fs || not (allFields isLiteral fs) else 0
+-- what a line is judged by
+pub record Holds (d : Content) (t : Counts) (text lengths : List ℕ) : Type 0 where
+  pub counted : Counted d t
+  pub named : NameTable (d .names) text lengths
 
--- 7 where a field's name is not declared
-abbrev pub knownFault : List (List ℕ) → List (List ℕ) → ℕ
-knownFault names fs = 7 when not (allFields (λ f. declared names (nameOf f)) fs) else 0
+-- the slices hold the rules
+pub record Stored (rules : List Rule) (heads starts entries : List ℕ) : Type 0 where
+  pub heads-are : heads ≡ headTable rules
+  pub starts-are : starts ≡ startTable rules
+  pub entries-are : entries ≡ entryTable rules
 
-abbrev pub ruleFault : List (List ℕ) → List Rule → List (List ℕ) → ℕ
-ruleFault names rules fs =
-    5 when headTilde fs || not (allFields isLiteral fs)
-    else 7 when not (allFields (λ f. declared names (nameOf f)) fs)
-    else 8 when leb maxRules (length rules) || ltb maxEntries (bodyLiterals rules + (length fs - 1))
-    else 0
+-- ---- the fields of a rule
+
+-- the names that the tables have, whatever is in them
+abbrev pub tableNames : List ℕ → List ℕ → ℕ → List (List ℕ)
+tableNames text lengths count = namesIn text lengths (clamp maxNames count)
 
 -- a field's name looked up: its literal, and how many `~` stand before it
 abbrev pub knownBy : Found → ℕ → ℕ → Known
@@ -83,23 +71,37 @@ knownBy (At i) tilde minus = Entry (2 * i + minus) tilde
 unfoldable pub knownOf : List (List ℕ) → List ℕ → Known
 knownOf names f = knownBy (find names (nameOf f)) (tildes f) (minuses f)
 
--- ---- what the functions ensure
+-- the number that is stored for a field
+abbrev pub fieldCode : List (List ℕ) → List ℕ → ℕ
+fieldCode names f = codeOf (entryFrom names f)
 
--- a name's line leaves the table with the name added, or its fault
-pub record NameRead (names : List (List ℕ)) (count : ℕ) (name : List ℕ) (fault : ℕ) (text lengths : List ℕ) : Type 0 where
-  pub fault-is : fault ≡ nameFault names name
-  pub added : fault ≡ 0 → NameTable (names ++ (name ∷ [])) (count + 1) text lengths
+-- whether all names of the fields are declared, and where they are, the fields' numbers from `at` on
+pub record FieldsKnown (names fs : List (List ℕ)) (at : ℕ) (r : Bool) (entries entries′ : List ℕ) : Type 0 where
+  pub answer-is : r ≡ allFields (isKnown names) fs
+  pub entries-are : r ≡ true → entries′ ≡ sets entries at (map (fieldCode names) fs)
 
--- a rule's line leaves the table with the rule added, or its fault
-pub record RuleRead (names : List (List ℕ)) (rules : List Rule) (count used n : ℕ) (fs : List (List ℕ)) (fault : ℕ) (heads starts entries : List ℕ) : Type 0 where
-  pub fault-is : fault ≡ ruleFault names rules fs
-  pub added : fault ≡ 0 → RuleTable (rules ++ ruleFrom names fs) (count + 1) (used + n) heads starts entries
+-- ---- a line
 
--- the answer to a line: its fault, or where that is 0 the counts of the tables, which hold what the lines say with it
-abbrev pub LineRead : ℕ → Content → LineAnswer → List ℕ → List ℕ → List ℕ → List ℕ → List ℕ → Type 0
-LineRead fault d (Fine t) text lengths heads starts entries = (fault ≡ 0) × Holds d t text lengths heads starts entries
-LineRead fault d (Fault k) text lengths heads starts entries = (fault ≡ k) × (k ≡ 0 → ⊥)
+-- what the lines before it say, what they say with it, and its fault
+pub record Step : Type 0 where
+  pub old : Content
+  pub new : Content
+  pub fault : ℕ
 
--- a line by its first word and its other fields
-abbrev pub WordRead : Content → Word → List (List ℕ) → LineAnswer → List ℕ → List ℕ → List ℕ → List ℕ → List ℕ → Type 0
-WordRead d w others = LineRead (faultOf d w others) (extended d w others)
+abbrev pub lineStep : Content → List (List ℕ) → Step
+lineStep d fs = record { old = d; new = withLine d fs; fault = lineFault d fs }
+
+-- by its first word and its other fields
+abbrev pub wordStep : Content → Word → List (List ℕ) → Step
+wordStep d w others = record { old = d; new = extended d w others; fault = faultOf d w others }
+
+-- the answer: the line's fault, or where that is 0 the counts of what the lines say with it
+abbrev pub Answered : Step → LineAnswer → List ℕ → List ℕ → Type 0
+Answered s (Fine t) text lengths = (s .fault ≡ 0) × Holds (s .new) t text lengths
+Answered s (Fault k) text lengths = (s .fault ≡ k) × (k ≡ 0 → ⊥)
+
+-- Slices that held the rules hold them after a line without a fault. The answer is the same over slices of every length: over empty ones a line is judged
+-- and counted, and nothing is stored.
+pub record LineRead (s : Step) (r : LineAnswer) (text lengths heads starts entries heads′ starts′ entries′ : List ℕ) : Type 0 where
+  pub answer : Answered s r text lengths
+  pub stored : s .fault ≡ 0 → Stored (s .old .rules) heads starts entries → Stored (s .new .rules) heads′ starts′ entries′

@@ -1,18 +1,15 @@
 // A marking file of whatever bytes becomes a book, or is refused under its number and line.
 ghost use mathlib.Core.Path.{_≡_};
-ghost use mathlib.Core.Bool.{true, false};
-ghost use mathlib.Core.List.{List, map};
+ghost use mathlib.Core.Bool.{false, not};
+ghost use mathlib.Core.List.{List, [], _∷_};
 ghost use Prim.Native.Nat.{ℕ, _+_, _≤_};
 ghost use lib.ListN.{length};
-ghost use lib.Seq.{sets};
-ghost use Rattle.wfsx.specs.Program.{Rule};
-ghost use Rattle.scan.specs.Text.{split, rest, fields};
-ghost use Rattle.scan.specs.declared.Word.the-variants.{Name, Rule as RuleWord, End};
-ghost use Rattle.book.specs.Limits.{maxNames, maxRules, maxEntries};
-ghost use Rattle.book.specs.Book.{clamp, namesIn, codeOf};
-ghost use Rattle.reader.specs.File.{Content, entryFrom, lineFault, withLine, readLines, nothingYet, readFile, accepted, refused};
+ghost use Rattle.scan.specs.Text.{newline, comma, split, rest, fields};
+ghost use Rattle.scan.specs.declared.Word.the-variants.{Name, Rule as RuleWord};
+ghost use Rattle.book.specs.Limits.{maxEntries, maxBody};
+ghost use Rattle.reader.specs.File.{Content, nothingYet, allFields, isLiteral, wrongFields, malformed, accepted, refused, readLines, readFile};
 ghost use Rattle.reader.specs.Loading.{loadedOf};
-ghost use Rattle.reader.specs.Steps.{NameTable, RuleTable, Holds, noCounts, formFault, ruleForm, knownFault, knownOf, NameRead, RuleRead, LineRead, WordRead};
+ghost use Rattle.reader.specs.Steps.{noCounts, Fits, Holds, Stored, tableNames, knownOf, FieldsKnown, lineStep, wordStep, Answered, LineRead};
 use book::Book;
 use book::Found;
 use scan::Form;
@@ -49,32 +46,46 @@ struct Counts {
     ended: bool,
 }
 
+// A line without a fault, with the counts behind it, or its fault.
+enum LineAnswer {
+    Fine(Counts),
+    Fault(u8),
+}
+
 // ---- a name's line
 
-// The fault of a NAME, or 0 where it was added to the table.
-fn name_line(count: usize, text: &mut [u8], lengths: &mut [u8], name: &[u8]) -> u8
-    ensures { λ r. ⌜ ((names : List (List ℕ)) → NameTable names count (now (text .entry)) (now (lengths .entry)) → NameRead names count (now (name .entry)) r (now (text .exit)) (now (lengths .exit))) ⌝ }
+// The line that declares `name`.
+fn name_line(t: Counts, text: &mut [u8], lengths: &mut [u8], name: &[u8]) -> LineAnswer
+    requires { ⌜ Fits t × (t .ended ≡ false) ⌝ }
+    ensures { λ r. ⌜ ((d : Content) → Holds d t (now (text .entry)) (now (lengths .entry))
+        → Answered (wordStep d Name (now (name .entry) ∷ [])) r (now (text .exit)) (now (lengths .exit))) ⌝ }
 {
     if !scan::is_name(name) {
-        return 5;
+        return LineAnswer::Fault(5);
     }
+    let count = t.names;
     let Found::Nothing = book::find_in(text, lengths, count, name) else {
-        return 6;
+        return LineAnswer::Fault(6);
     };
     if book::MAX_NAMES <= count {
-        return 8;
+        return LineAnswer::Fault(8);
     }
-    store::put_all(text, book::MAX_LENGTH * count, name);
+    store::put_all(text, scan::MAX_LENGTH * count, name);
     store::put8(lengths, count, name.len() as u8);
-    0
+    LineAnswer::Fine(Counts {
+        names: count + 1,
+        rules: t.rules,
+        used: t.used,
+        ended: false,
+    })
 }
 
 // ---- a rule's line
 
-// 5 where a field from place `from` on is malformed.
-fn form_fault(line: &[u8], from: usize) -> u8
+// Whether every field from place `from` on reads as a literal.
+fn all_literals(line: &[u8], from: usize) -> bool
     requires { ⌜ from ≤ length (now line) + 1 ⌝ }
-    ensures { λ r. ⌜ r ≡ formFault (rest 44 (now (line .entry)) from) ⌝ }
+    ensures { λ r. ⌜ r ≡ allFields isLiteral (rest comma (now (line .entry)) from) ⌝ }
 {
     let mut p = from;
     while p <= line.len() {
@@ -84,26 +95,25 @@ fn form_fault(line: &[u8], from: usize) -> u8
             minuses: _,
         } = scan::form_of(&line[p..e])
         else {
-            return 5;
+            return false;
         };
         p = e + 1;
     }
-    0
+    true
 }
 
-// 5 where the head at `from` has a `~`, or is malformed, or a field behind it is malformed.
-fn rule_form(line: &[u8], from: usize) -> u8
-    requires { ⌜ from ≤ length (now line) ⌝ }
-    ensures { λ r. ⌜ r ≡ ruleForm (rest 44 (now (line .entry)) from) ⌝ }
+// Whether the head and every field behind it reads as a literal, and the head has no `~`.
+fn well_formed(rule: &[u8]) -> bool
+    ensures { λ r. ⌜ r ≡ not (malformed RuleWord (fields (now (rule .entry)))) ⌝ }
 {
-    let e = scan::end_of(line, from, b',');
-    let Form::Literal { tildes, minuses: _ } = scan::form_of(&line[from..e]) else {
-        return 5;
+    let e = scan::end_of(rule, 0, b',');
+    let Form::Literal { tildes, minuses: _ } = scan::form_of(&rule[0..e]) else {
+        return false;
     };
     if tildes != 0 {
-        return 5;
+        return false;
     }
-    form_fault(line, e + 1)
+    all_literals(rule, e + 1)
 }
 
 // A field's name looked up: its literal, and how many `~` stand before it.
@@ -113,7 +123,7 @@ enum Known {
 }
 
 fn known_of(text: &[u8], lengths: &[u8], count: usize, f: &[u8]) -> Known
-    ensures { λ r. ⌜ r ≡ knownOf (namesIn (now (text .entry)) (now (lengths .entry)) (clamp maxNames count)) (now (f .entry)) ⌝ }
+    ensures { λ r. ⌜ r ≡ knownOf (tableNames (now (text .entry)) (now (lengths .entry)) count) (now (f .entry)) ⌝ }
 {
     let m = scan::marks_of(f);
     let from = m.tildes + m.minuses;
@@ -126,8 +136,8 @@ fn known_of(text: &[u8], lengths: &[u8], count: usize, f: &[u8]) -> Known
     }
 }
 
-// 7 where a field from place `from` on has an undeclared name; otherwise its entries stand from `at` on.
-fn body_entries(
+// Whether every field from place `from` on has a declared name. Then their entries stand from `at` on.
+fn all_known(
     text: &[u8],
     lengths: &[u8],
     count: usize,
@@ -135,25 +145,26 @@ fn body_entries(
     at: usize,
     line: &[u8],
     from: usize,
-) -> u8
+) -> bool
     requires { ⌜ (from ≤ length (now line) + 1) × (at ≤ maxEntries) ⌝ }
-    ensures { λ r. ⌜ (r ≡ knownFault (namesIn (now (text .entry)) (now (lengths .entry)) (clamp maxNames count)) (rest 44 (now (line .entry)) from)) × (r ≡ 0 → now (entries .exit) ≡ sets (now (entries .entry)) at (map (λ f. codeOf (entryFrom (namesIn (now (text .entry)) (now (lengths .entry)) (clamp maxNames count)) f)) (rest 44 (now (line .entry)) from))) ⌝ }
+    ensures { λ r. ⌜ FieldsKnown (tableNames (now (text .entry)) (now (lengths .entry)) count) (rest comma (now (line .entry)) from)
+        at r (now (entries .entry)) (now (entries .exit)) ⌝ }
 {
     let mut k = at;
     let mut p = from;
     while p <= line.len() {
         let e = scan::end_of(line, p, b',');
         let Known::Entry { literal, tildes } = known_of(text, lengths, count, &line[p..e]) else {
-            return 7;
+            return false;
         };
         store::put16(entries, k, (2 * literal + tildes) as u16);
         k += 1;
         p = e + 1;
     }
-    0
+    true
 }
 
-// The fault of a rule whose head stands at `from` with n body literals behind it, or 0 where it was added to the tables.
+// The line whose fields after the first are a head and n body literals.
 fn rule_line(
     t: Counts,
     text: &[u8],
@@ -161,123 +172,57 @@ fn rule_line(
     heads: &mut [u16],
     starts: &mut [u16],
     entries: &mut [u16],
-    line: &[u8],
-    from: usize,
+    rule: &[u8],
     n: usize,
-) -> u8
-    requires { ⌜ (t .used ≤ maxEntries) × (n ≤ 16) × (from ≤ length (now line)) × (n + 1 ≡ length (rest 44 (now line) from)) ⌝ }
-    ensures { λ r. ⌜ ((names : List (List ℕ)) (rules : List Rule) → NameTable names (t .names) (now (text .entry)) (now (lengths .entry)) → RuleTable rules (t .rules) (t .used) (now (heads .entry)) (now (starts .entry)) (now (entries .entry)) → RuleRead names rules (t .rules) (t .used) n (rest 44 (now (line .entry)) from) r (now (heads .exit)) (now (starts .exit)) (now (entries .exit))) ⌝ }
+) -> LineAnswer
+    requires { ⌜ Fits t × (t .ended ≡ false) × (n ≤ maxBody) × (n + 1 ≡ length (fields (now rule))) ⌝ }
+    ensures { λ r. ⌜ ((d : Content) → Holds d t (now (text .entry)) (now (lengths .entry))
+        → LineRead (wordStep d RuleWord (fields (now (rule .entry)))) r (now (text .entry)) (now (lengths .entry))
+        (now (heads .entry)) (now (starts .entry)) (now (entries .entry)) (now (heads .exit)) (now (starts .exit)) (now (entries .exit))) ⌝ }
 {
-    if rule_form(line, from) != 0 {
-        return 5;
+    if !well_formed(rule) {
+        return LineAnswer::Fault(5);
     }
-    let e = scan::end_of(line, from, b',');
-    let Known::Entry { literal, tildes: _ } = known_of(text, lengths, t.names, &line[from..e])
-    else {
-        return 7;
+    let e = scan::end_of(rule, 0, b',');
+    let Known::Entry { literal, tildes: _ } = known_of(text, lengths, t.names, &rule[0..e]) else {
+        return LineAnswer::Fault(7);
     };
-    if body_entries(text, lengths, t.names, entries, t.used, line, e + 1) != 0 {
-        return 7;
+    if !all_known(text, lengths, t.names, entries, t.used, rule, e + 1) {
+        return LineAnswer::Fault(7);
     }
     let rules = t.rules;
     if book::MAX_RULES <= rules {
-        return 8;
+        return LineAnswer::Fault(8);
     }
     let end = t.used + n;
     if book::MAX_ENTRIES < end {
-        return 8;
+        return LineAnswer::Fault(8);
     }
     store::put16(heads, rules, literal as u16);
     store::put16(starts, rules + 1, end as u16);
-    0
+    LineAnswer::Fine(Counts {
+        names: t.names,
+        rules: rules + 1,
+        used: end,
+        ended: false,
+    })
 }
 
 // ---- a line, the lines, the file
 
-// A line without a fault, with the counts behind it, or its fault.
-enum LineAnswer {
-    Fine(Counts),
-    Fault(u8),
-}
-
-// A line of n fields whose first field says that it declares a name; the others begin at `from`.
-fn with_name(
-    t: Counts,
-    text: &mut [u8],
-    lengths: &mut [u8],
-    line: &[u8],
-    from: usize,
-    n: usize,
-) -> LineAnswer
-    requires { ⌜ (t .names ≤ maxNames) × (from ≤ length (now line) + 1) × (n ≡ length (rest 44 (now line) from) + 1) ⌝ }
-    ensures { λ r. ⌜ ((d : Content) (heads starts entries : List ℕ) → Holds d t (now (text .entry)) (now (lengths .entry)) heads starts entries → d .ended ≡ false → WordRead d Name (rest 44 (now (line .entry)) from) r (now (text .exit)) (now (lengths .exit)) heads starts entries) ⌝ }
+// Whether a line whose first field is the word may have n fields.
+fn right_count(word: Word, n: usize) -> bool
+    ensures { λ r. ⌜ ((others : List (List ℕ)) → n ≡ length others + 1 → r ≡ not (wrongFields word others)) ⌝ }
 {
-    if n != 2 {
-        return LineAnswer::Fault(4);
+    match word {
+        Word::Name => n == 2,
+        Word::Rule => 2 <= n && n <= book::MAX_BODY + 2,
+        Word::End => n == 1,
+        Word::Unknown => false,
     }
-    let e = scan::end_of(line, from, b',');
-    let fault = name_line(t.names, text, lengths, &line[from..e]);
-    if fault != 0 {
-        return LineAnswer::Fault(fault);
-    }
-    LineAnswer::Fine(Counts {
-        names: t.names + 1,
-        rules: t.rules,
-        used: t.used,
-        ended: false,
-    })
 }
 
-// A line of n fields whose first field says that it gives a rule; the others begin at `from`.
-fn with_rule(
-    t: Counts,
-    text: &[u8],
-    lengths: &[u8],
-    heads: &mut [u16],
-    starts: &mut [u16],
-    entries: &mut [u16],
-    line: &[u8],
-    from: usize,
-    n: usize,
-) -> LineAnswer
-    requires { ⌜ (t .rules ≤ maxRules) × (t .used ≤ maxEntries) × (from ≤ length (now line) + 1) × (n ≡ length (rest 44 (now line) from) + 1) ⌝ }
-    ensures { λ r. ⌜ ((d : Content) → Holds d t (now (text .entry)) (now (lengths .entry)) (now (heads .entry)) (now (starts .entry)) (now (entries .entry)) → d .ended ≡ false → WordRead d RuleWord (rest 44 (now (line .entry)) from) r (now (text .entry)) (now (lengths .entry)) (now (heads .exit)) (now (starts .exit)) (now (entries .exit))) ⌝ }
-{
-    if n < 2 {
-        return LineAnswer::Fault(4);
-    }
-    if 18 < n {
-        return LineAnswer::Fault(4);
-    }
-    let body = n - 2;
-    let fault = rule_line(t, text, lengths, heads, starts, entries, line, from, body);
-    if fault != 0 {
-        return LineAnswer::Fault(fault);
-    }
-    LineAnswer::Fine(Counts {
-        names: t.names,
-        rules: t.rules + 1,
-        used: t.used + body,
-        ended: false,
-    })
-}
-
-// A line of n fields whose first field is `end`. Its other fields are counted and not read.
-fn with_end(t: Counts, n: usize) -> LineAnswer
-    ensures { λ r. ⌜ ((d : Content) (text lengths heads starts entries : List ℕ) (others : List (List ℕ)) → Holds d t text lengths heads starts entries → d .ended ≡ false → n ≡ length others + 1 → WordRead d End others r text lengths heads starts entries) ⌝ }
-{
-    if n != 1 {
-        return LineAnswer::Fault(4);
-    }
-    LineAnswer::Fine(Counts {
-        names: t.names,
-        rules: t.rules,
-        used: t.used,
-        ended: true,
-    })
-}
-
-// A line behind those that the tables hold.
+// A line behind those that have been read.
 fn judge(
     t: Counts,
     text: &mut [u8],
@@ -287,24 +232,45 @@ fn judge(
     entries: &mut [u16],
     line: &[u8],
 ) -> LineAnswer
-    requires { ⌜ (t .names ≤ maxNames) × (t .rules ≤ maxRules) × (t .used ≤ maxEntries) ⌝ }
-    ensures { λ r. ⌜ ((d : Content) → Holds d t (now (text .entry)) (now (lengths .entry)) (now (heads .entry)) (now (starts .entry)) (now (entries .entry)) → LineRead (lineFault d (fields (now (line .entry)))) (withLine d (fields (now (line .entry)))) r (now (text .exit)) (now (lengths .exit)) (now (heads .exit)) (now (starts .exit)) (now (entries .exit))) ⌝ }
+    requires { ⌜ Fits t ⌝ }
+    ensures { λ r. ⌜ ((d : Content) → Holds d t (now (text .entry)) (now (lengths .entry))
+        → LineRead (lineStep d (fields (now (line .entry)))) r (now (text .exit)) (now (lengths .exit))
+        (now (heads .entry)) (now (starts .entry)) (now (entries .entry)) (now (heads .exit)) (now (starts .exit)) (now (entries .exit))) ⌝ }
 {
     if t.ended {
         return LineAnswer::Fault(9);
     }
     let e = scan::end_of(line, 0, b',');
     let n = scan::pieces(line, b',');
-    match scan::word_of(&line[0..e]) {
+    let word = scan::word_of(&line[0..e]);
+    if !right_count(word, n) {
+        return LineAnswer::Fault(4);
+    }
+    match word {
         Word::Name => {
-            return with_name(t, text, lengths, line, e + 1, n);
+            return name_line(t, text, lengths, &line[e + 1..]);
         }
         Word::Rule => {
-            return with_rule(t, text, lengths, heads, starts, entries, line, e + 1, n);
+            return rule_line(
+                t,
+                text,
+                lengths,
+                heads,
+                starts,
+                entries,
+                &line[e + 1..],
+                n - 2,
+            );
         }
         Word::End => {
-            return with_end(t, n);
+            return LineAnswer::Fine(Counts {
+                names: t.names,
+                rules: t.rules,
+                used: t.used,
+                ended: true,
+            });
         }
+        // No count of fields is right for it.
         Word::Unknown => {
             return LineAnswer::Fault(4);
         }
@@ -332,7 +298,8 @@ fn accepted_with(
     starts: [u16; book::MAX_STARTS],
     entries: [u16; book::MAX_ENTRIES],
 ) -> Loaded
-    ensures { λ r. ⌜ ((d : Content) → Holds d t text lengths heads starts entries → r ≡ loadedOf (accepted (d .names) (d .rules))) ⌝ }
+    ensures { λ r. ⌜ ((d : Content) → Holds d t text lengths → Stored (d .rules) heads starts entries
+        → r ≡ loadedOf (accepted (d .names) (d .rules))) ⌝ }
 {
     Loaded {
         answer: Answer::Accepted,
@@ -350,7 +317,7 @@ fn accepted_with(
 
 // The lines of b, which is the file without its last byte.
 fn read_lines(b: &[u8]) -> Loaded
-    ensures { λ r. ⌜ r ≡ loadedOf (readLines nothingYet 1 (split 10 (now (b .entry)))) ⌝ }
+    ensures { λ r. ⌜ r ≡ loadedOf (readLines nothingYet 1 (split newline (now (b .entry)))) ⌝ }
 {
     let mut text = [0u8; book::MAX_TEXT];
     let mut lengths = [0u8; book::MAX_NAMES];
@@ -361,7 +328,7 @@ fn read_lines(b: &[u8]) -> Loaded
     let mut at = 0;
     let mut number = 1;
     while at <= b.len() {
-        let e = scan::end_of(b, at, 10);
+        let e = scan::end_of(b, at, b'\n');
         match judge(
             t,
             &mut text,
@@ -400,7 +367,7 @@ pub fn read(file: &[u8]) -> Loaded
     if n == 0 {
         return refusal(3, 0);
     }
-    if file[n - 1] != 10 {
+    if file[n - 1] != b'\n' {
         return refusal(3, 0);
     }
     read_lines(&file[0..n - 1])

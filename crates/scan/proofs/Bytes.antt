@@ -8,18 +8,9 @@ use lib.ListN.{length, getD, take, drop, drop-of-length-le}
 use lib.Seq.{take-all}
 use lib.Dec.{eqb, leb}
 use borrow.Author.Tests.{eq-eqb, le-leb, eqb-true, leb-true}
-use Rattle.scan.specs.Text.{classOf, isLetter, inName, allBytes, isName, sameBytes}
+use Rattle.truth.proofs.Truth.{refuted, and-l, and-r}
+use Rattle.scan.specs.Text.{classOf, isLetter, inName, allBytes, maxLength, isName, sameBytes}
 use Rattle.scan.proofs.Places.{left-at}
-
--- ---- tests
-
-both : (a b : Bool) → a && b ≡ true → (a ≡ true) × (b ≡ true)
-both true b e = (refl, e)
-both false b e = absurd (true≢false (sym e))
-
-pub refuted : (t : Bool) → (t ≡ true → ⊥) → t ≡ false
-refuted true h = absurd (h refl)
-refuted false h = refl
 
 -- ---- every byte
 
@@ -51,7 +42,7 @@ module _ (f : ℕ → Bool) (s : List ℕ) (i : ℕ) where
 -- what a name is made of: 1 to 16 bytes, a letter and then bytes that a name may have
 pub record NameParts (s : List ℕ) : Type 0 where
   pub some : 1 ≤ length s
-  pub few : length s ≤ 16
+  pub few : length s ≤ maxLength
   pub letter : isLetter (classOf (getD s 0 0)) ≡ true
   pub others : allBytes (λ b. inName (classOf b)) (drop 1 s) ≡ true
 
@@ -60,34 +51,35 @@ unfolding isName
 name-parts [] e = absurd (true≢false (sym e))
 name-parts (x ∷ xs) e =
     let tail = allBytes (λ b. inName (classOf b)) xs in
-    let h = both (leb (length xs) 15) (isLetter (classOf x) && tail) e in
-    let k = both (isLetter (classOf x)) tail (h .1) in
-    record { some = omega arith; few = omega (arith, leb-true (length xs) 15 (h .0)); letter = k .0; others = k .1 }
+    let letter = isLetter (classOf x) in
+    let short = leb (suc (length xs)) maxLength in
+    let rest = and-r short (letter && tail) e in
+    record { some = omega arith; few = leb-true (suc (length xs)) maxLength (and-l short (letter && tail) e); letter = and-l letter tail rest; others = and-r letter tail rest }
 
 pub parts-name : (s : List ℕ) → NameParts s → isName s ≡ true
 unfolding isName
 parts-name [] p = let h = p .some in absurd (omega arith)
-parts-name (x ∷ xs) p = rw (le-leb (length xs) 15 (let h = p .few in omega arith), p .letter, p .others)
+parts-name (x ∷ xs) p = rw (le-leb (suc (length xs)) maxLength (p .few), p .letter, p .others)
 
-pub name-fits : (s : List ℕ) → isName s ≡ true → (1 ≤ length s) × (length s ≤ 16)
+pub name-fits : (s : List ℕ) → isName s ≡ true → (1 ≤ length s) × (length s ≤ maxLength)
 name-fits s e = let p = name-parts s e in (p .some, p .few)
 
 -- by the tests in their order
 module _ (s : List ℕ) where
   pub name-none : length s ≡ 0 → isName s ≡ false
-  name-none h = refuted (isName s) (λ e. omega (arith, name-parts s e .some))
+  name-none h = refuted (λ e. omega (arith, name-parts s e .some))
 
-  pub name-long : 16 < length s → isName s ≡ false
-  name-long h = refuted (isName s) (λ e. omega (arith, name-parts s e .few))
+  pub name-long : maxLength < length s → isName s ≡ false
+  name-long h = refuted (λ e. omega (arith, name-parts s e .few))
 
   pub name-first : isLetter (classOf (getD s 0 0)) ≡ false → isName s ≡ false
-  name-first h = refuted (isName s) (λ e. true≢false (sym (name-parts s e .letter) ∙ h))
+  name-first h = refuted (λ e. true≢false (sym (name-parts s e .letter) ∙ h))
 
-pub name-rest : (s : List ℕ) → (length s ≡ 0 → ⊥) → length s ≤ 16 → isLetter (classOf (getD s 0 0)) ≡ true
+pub name-rest : (s : List ℕ) → (length s ≡ 0 → ⊥) → length s ≤ maxLength → isLetter (classOf (getD s 0 0)) ≡ true
     → isName s ≡ allBytes (λ b. inName (classOf b)) (take (length s - 1) (drop 1 s))
 unfolding isName
 name-rest [] n h e = absurd (n refl)
-name-rest (x ∷ xs) n h e = rw (le-leb (length xs) 15 (omega arith), e, take-all (suc (length xs) - 1) xs (omega arith))
+name-rest (x ∷ xs) n h e = rw (le-leb (suc (length xs)) maxLength h, e, take-all (suc (length xs) - 1) xs (omega arith))
 
 -- ---- the same bytes
 
@@ -102,9 +94,8 @@ same-equal [] [] e = refl
 same-equal [] (y ∷ ys) e = absurd (true≢false (sym e))
 same-equal (x ∷ xs) [] e = absurd (true≢false (sym e))
 same-equal (x ∷ xs) (y ∷ ys) e =
-    let h = both (eqb x y) (sameBytes xs ys) e in
-    cc (eqb-true x y (h .0), same-equal xs ys (h .1))
+    cc (eqb-true x y (and-l (eqb x y) (sameBytes xs ys) e), same-equal xs ys (and-r (eqb x y) (sameBytes xs ys) e))
 
 pub same-is : (r : Bool) (a b : List ℕ) → (r ≡ true → a ≡ b) × (a ≡ b → r ≡ true) → r ≡ sameBytes a b
 same-is true a b h = sym (ap (sameBytes a) (sym (h .0 refl)) ∙ same-refl a)
-same-is false a b h = sym (refuted (sameBytes a b) (λ e. true≢false (sym (h .1 (same-equal a b e)))))
+same-is false a b h = sym (refuted (λ e. true≢false (sym (h .1 (same-equal a b e)))))

@@ -6,8 +6,8 @@ use Prim.Native.Nat.{ℕ, zero, suc, _+_, _-_, _≤_, _<_, zero-le, suc-le-suc}
 use native.Mathlib.Nat.{not-suc-le-zero, le-of-suc-le-suc, zero-add, suc-add}
 use native.Mathlib.Omega.{arith}
 use native.Mathlib.Numerals.{add-one}
-use lib.ListN.{length, getD, take, drop, drop-of-length-le}
-use lib.Seq.{drop-cons}
+use lib.ListN.{length, getD, take, drop, length-drop, drop-of-length-le}
+use lib.Seq.{drop-cons, take-all}
 use lib.Dec.{leb, eqb, leb·zero, leb·suc-suc}
 use borrow.Author.Tests.{eq-eqb, ne-eqb, le-leb, lt-leb, leb-true}
 use Rattle.scan.specs.Text.{onto, split, lenTo, rest}
@@ -119,3 +119,18 @@ within stop l p false e h = absurd (not-suc-le-zero h)
 -- where there is a piece from p on, p is within the list
 pub rest-within : (stop : ℕ) (l : List ℕ) (p : ℕ) → 0 < length (rest stop l p) → p ≤ length l
 rest-within stop l p h = within stop l p (leb p (length l)) refl h
+
+-- the pieces of what stands from p on are the pieces from p on
+pub rest-part : (stop : ℕ) (l : List ℕ) (p : ℕ) → p ≤ length l → split stop (take (length l - p) (drop p l)) ≡ rest stop l p
+rest-part stop l p h = ap (split stop) (take-all (length l - p) (drop p l) (omega (arith, length-drop p l))) ∙ sym (rest-here stop l p h)
+
+-- one piece is the whole
+pub split-one : (stop : ℕ) (s : List ℕ) → length (split stop s) ≡ 1 → split stop s ≡ s ∷ []
+split-one stop [] h = split-none stop
+split-one stop (x ∷ xs) h = go (split-one stop xs) (eqb x stop) refl
+  where
+    go : (length (split stop xs) ≡ 1 → split stop xs ≡ xs ∷ []) → (t : Bool) → eqb x stop ≡ t → split stop (x ∷ xs) ≡ (x ∷ xs) ∷ []
+    go ih true e = absurd (omega (arith, ap length (split-stop stop x xs e), split-some stop xs))
+    go ih false e =
+        let grown = split-byte stop x xs e in
+        grown ∙ ap (onto x) (ih (omega (arith, ap length grown, length-onto x (split stop xs) (split-some stop xs))))

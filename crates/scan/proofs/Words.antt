@@ -3,10 +3,11 @@ use mathlib.Core.Path.{_≡_, refl, sym, ap, _∙_}
 use mathlib.Core.Bool.{Bool, true, false, cond, true≢false}
 use mathlib.Core.List.{List}
 use Prim.Native.Nat.{ℕ}
+use Rattle.truth.proofs.Truth.{refuted}
 use Rattle.scan.specs.Text.{sameBytes, nameWord, ruleWord, endWord, wordOf}
 use Rattle.scan.specs.declared.Word.{Word}
 use Rattle.scan.specs.declared.Word.the-variants.{Name, Rule, End, Unknown}
-use Rattle.scan.proofs.Bytes.{same-refl, same-equal, refuted}
+use Rattle.scan.proofs.Bytes.{same-refl, same-equal}
 
 -- ---- by the tests in their order
 
@@ -57,4 +58,4 @@ word-is End f e = rw e
 word-is Unknown f n = word-unknown f (unlike nameWord (n .0)) (unlike ruleWord (n .1)) (unlike endWord (n .2))
   where
     unlike : (g : List ℕ) → (f ≡ g → ⊥) → sameBytes f g ≡ false
-    unlike g n = refuted (sameBytes f g) (λ e. n (same-equal f g e))
+    unlike g n = refuted (λ e. n (same-equal f g e))

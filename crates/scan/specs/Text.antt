@@ -13,9 +13,17 @@ use Rattle.scan.specs.declared.Form.the-variants.{Malformed, Literal}
 
 -- ---- bytes
 
+-- a line ends in byte 10
+abbrev pub newline : ℕ
+newline = 10
+
+-- a comma parts two fields
+abbrev pub comma : ℕ
+comma = 44
+
 -- a byte of a file: 10, or 32 to 126
 abbrev pub isText : ℕ → Bool
-isText b = eqb b 10 || (leb 32 b && leb b 126)
+isText b = eqb b newline || (leb 32 b && leb b 126)
 
 -- the class of a byte: a lower-case letter (97 to 122), a digit (48 to 57), an underscore (95), or another
 abbrev pub classOf : ℕ → Class
@@ -61,14 +69,18 @@ rest stop l p = cond (leb p (length l)) (split stop (drop p l)) []
 
 -- the fields of a line are parted by commas
 abbrev pub fields : List ℕ → List (List ℕ)
-fields line = split 44 line
+fields line = split comma line
 
 -- ---- names
+
+-- the most bytes of a NAME; `src/lib.rt` has the same number
+abbrev pub maxLength : ℕ
+maxLength = 16
 
 -- a NAME has 1 to 16 bytes, of which the first is a letter
 unfoldable pub isName : List ℕ → Bool
 isName [] = false
-isName (x ∷ xs) = leb (length xs) 15 && (isLetter (classOf x) && allBytes (λ b. inName (classOf b)) xs)
+isName (x ∷ xs) = leb (suc (length xs)) maxLength && (isLetter (classOf x) && allBytes (λ b. inName (classOf b)) xs)
 
 -- ---- the first field
 

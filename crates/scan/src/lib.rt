@@ -4,6 +4,9 @@ ghost use Prim.Native.Nat.{_+_, _≤_};
 ghost use lib.ListN.{length, drop};
 ghost use Rattle.scan.specs.Text.{isText, classOf, isLetter, inName, allBytes, split, lenTo, isName, sameBytes, wordOf, lead, tildes, minuses, formOf};
 
+// The most bytes of a name; `maxLength` in specs/Text.antt is the same number.
+pub const MAX_LENGTH: usize = 16;
+
 // What a byte may be in a name.
 pub enum Class {
     Letter,
@@ -64,7 +67,7 @@ pub fn is_name(s: &[u8]) -> bool
     if s.len() == 0 {
         return false;
     }
-    if 16 < s.len() {
+    if MAX_LENGTH < s.len() {
         return false;
     }
     if !is_letter(class_of(s[0])) {
@@ -77,7 +80,7 @@ fn is_text(b: u8) -> bool
     ensures { λ r. ⌜ r ≡ isText b ⌝ }
 {
     match b {
-        10 => true,
+        b'\n' => true,
         32..=126 => true,
         _ => false,
     }
@@ -99,7 +102,8 @@ pub fn all_text(s: &[u8]) -> bool
 
 // The place of the first `stop` at or after `from`, or the end; a place past the end stays.
 pub fn end_of(s: &[u8], from: usize, stop: u8) -> usize
-    ensures { λ r. ⌜ (r ≡ from + lenTo stop (drop from (now (s .entry)))) × (from ≤ r) × (from ≤ length (now (s .entry)) → r ≤ length (now (s .entry))) ⌝ }
+    ensures { λ r. ⌜ (r ≡ from + lenTo stop (drop from (now (s .entry)))) × (from ≤ r)
+        × (from ≤ length (now (s .entry)) → r ≤ length (now (s .entry))) ⌝ }
 {
     let mut i = from;
     while i < s.len() {
@@ -174,7 +178,8 @@ pub struct Marks {
 }
 
 pub fn marks_of(f: &[u8]) -> Marks
-    ensures { λ r. ⌜ (r .tildes ≡ tildes (now (f .entry))) × (r .minuses ≡ minuses (now (f .entry))) × (r .tildes + r .minuses ≤ length (now (f .entry))) ⌝ }
+    ensures { λ r. ⌜ (r .tildes ≡ tildes (now (f .entry))) × (r .minuses ≡ minuses (now (f .entry)))
+        × (r .tildes + r .minuses ≤ length (now (f .entry))) ⌝ }
 {
     let a = skip(f, 0, b'~');
     let b = skip(f, a, b'-');

@@ -1,8 +1,10 @@
--- Laws of tests: each holds by cases on the values of the tests.
+-- Laws of tests: each holds by cases on the values of the tests. A test that decides a statement is true exactly where the statement holds.
 use mathlib.Core.Path.{_≡_, refl, sym, _∙_, ap}
-use mathlib.Core.Logic.{_⊎_, inl, inr}
+use mathlib.Core.Logic.{_⊎_, inl, inr, ⊎-elim, _↔_}
 use mathlib.Core.Bool.{Bool, true, false, not, _&&_, _||_, true≢false}
-use borrow.Author.Tests.{not-true}
+use Prim.Native.Nat.{ℕ, _≤_}
+use lib.Dec.{eqb, leb}
+use borrow.Author.Tests.{not-true, leb-true, le-leb, eqb-true, eq-eqb}
 
 pub clash : {b : Bool} → b ≡ true → b ≡ false → ⊥
 clash p q = true≢false (sym p ∙ q)
@@ -74,3 +76,24 @@ and-map a b {c} {d} f g h = and-intro c d (f (and-l a b h)) (g (and-r a b h))
 pub or-map : (a b : Bool) {c d : Bool} → (a ≡ true → c ≡ true) → (b ≡ true → d ≡ true) → a || b ≡ true → c || d ≡ true
 or-map true b {c} {d} f g h = or-l c d (f refl)
 or-map false b {c} {d} f g h = or-r c d (g h)
+
+-- ---- tests that decide a statement
+
+-- where a test decides P, its failure is that P does not hold
+pub fails : (b : Bool) {P : Type 0} → ((b ≡ true) ↔ P) → (b ≡ false) ↔ (P → ⊥)
+fails b d = (λ e p. clash (d .1 p) e, λ n. refuted (λ e. n (d .0 e)))
+
+pub or-is : (a b : Bool) {P Q : Type 0} → ((a ≡ true) ↔ P) → ((b ≡ true) ↔ Q) → (a || b ≡ true) ↔ (P ⊎ Q)
+or-is a b p q = (λ e. ⊎-elim (λ h. inl (p .0 h)) (λ h. inr (q .0 h)) (or-elim a b e), ⊎-elim (λ h. or-l a b (p .1 h)) (λ h. or-r a b (q .1 h)))
+
+pub and-is : (a b : Bool) {P Q : Type 0} → ((a ≡ true) ↔ P) → ((b ≡ true) ↔ Q) → (a && b ≡ true) ↔ (P × Q)
+and-is a b p q = (λ e. (p .0 (and-l a b e), q .0 (and-r a b e)), λ h. and-intro a b (p .1 (h .0)) (q .1 (h .1)))
+
+pub not-is : (b : Bool) {P : Type 0} → ((b ≡ true) ↔ P) → (not b ≡ true) ↔ (P → ⊥)
+not-is b d = (λ e. fails b d .0 (not-true b e), λ n. not-intro (fails b d .1 n))
+
+pub leb-is : (a b : ℕ) → (leb a b ≡ true) ↔ (a ≤ b)
+leb-is a b = (leb-true a b, le-leb a b)
+
+pub eqb-is : (a b : ℕ) → (eqb a b ≡ true) ↔ (a ≡ b)
+eqb-is a b = (eqb-true a b, eq-eqb a b)

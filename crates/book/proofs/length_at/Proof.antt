@@ -2,8 +2,8 @@
 use borrow.Author.Needs.{needs}
 use mathlib.Core.Path.{_∙_, ap, sym}
 use lib.ListN.{List·getD-eq-default}
+use Rattle.scan.specs.Text.{maxLength}
 use Rattle.book.specs.Book.{clamp}
-use Rattle.book.specs.Limits.{maxLength}
 use Rattle.book.proofs.length_at.Statement.{statement}
 use Rattle.book.proofs.length_at.Tie as tie
 

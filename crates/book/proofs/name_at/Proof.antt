@@ -3,6 +3,7 @@ use borrow.Author.Needs.{needs}
 use mathlib.Core.Path.{_∙_, ap}
 use Prim.Native.Nat.{ℕ, _*_}
 use lib.ListN.{take, drop}
+use Rattle.scan.specs.Text.{maxLength}
 use Rattle.book.proofs.Lookup.{name-past}
 use Rattle.book.proofs.name_at.Statement.{statement}
 use Rattle.book.proofs.name_at.Tie as tie
@@ -25,7 +26,7 @@ part-requires c κs = search needs
 returns-2 : tie.Need-returns-2
 returns-2 c =
     let a = c .before .before .before .before .before .args in
-    c .part .ensures ∙ ap (λ (n : ℕ). take n (drop (16 * a .k) (a .text .now))) (c .before .length-at .ensures)
+    c .part .ensures ∙ ap (λ (n : ℕ). take n (drop (maxLength * a .k) (a .text .now))) (c .before .length-at .ensures)
 
 pub name-at-spec : {M : Type 1} → statement M
 name-at-spec =

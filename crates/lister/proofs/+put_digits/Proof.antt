@@ -62,15 +62,20 @@ put-digits-put8-requires-2 t c κs = search needs
 
 put-digits-add-result-2 : (t : ℕ) → put-digits-lts.Need-add-result-2 (put-digits-claims t) (put-digits-at t) put-digits.Post
 put-digits-add-result-2 t c =
-    let n = c .before .before .before .before .before .before .before .before .before .before .args .n in
-    let big : 10 ≤ n = c .before .before .before .before .before .before .before .before .if1 .left in
-    omega (arith, digits-one-more n big, c .before .before .before .before .before .before .before .before .before .before .pre .1, c .before .before .before .before .before .before .put-digits .ensures .place)
+    let front = c .before .before .before .before .before .before in
+    let large = front .before .before in
+    let start = large .before .before in
+    let big : 10 ≤ start .args .n = large .if1 .left in
+    omega (arith, digits-one-more (start .args .n) big, start .pre .1, front .put-digits .ensures .place)
 
 put-digits-same-length-2 : (t : ℕ) → put-digits-lts.Need-same-length-2 (put-digits-claims t) (put-digits-at t) put-digits.Post
 put-digits-same-length-2 t c = search needs
 
 put-digits-returns-2 : (t : ℕ) → put-digits-lts.Need-returns-2 (put-digits-claims t) (put-digits-at t) put-digits.Post
-put-digits-returns-2 t c = rw (digits-more (c .before .before .before .before .before .before .before .before .before .before .args .n) (c .before .before .before .before .before .before .before .before .if1 .left)) (put-then (c .before .before .before .before .before .before .put-digits .ensures) (put-byte (c .before .before .put82 .ensures)))
+put-digits-returns-2 t c =
+    let front = c .before .before .before .before .before .before in
+    let large = front .before .before in
+    rw (digits-more (large .before .before .args .n) (large .if1 .left)) (put-then (front .put-digits .ensures) (put-byte (c .before .before .put82 .ensures)))
 
 pub +put-digits-spec : {M : Type 1} → statement M
 +put-digits-spec = close μ-put-digits λ t. put-digits-lts.spec (put-digits-claims t)

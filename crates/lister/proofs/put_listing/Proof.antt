@@ -7,46 +7,72 @@ use lib.ListN.{getD}
 use Rattle.book.specs.Book.{namesIn}
 use Rattle.book.specs.Limits.{maxNames}
 use Rattle.book.proofs.Counts.{clamp-most}
+use Rattle.scan.specs.Text.{comma, newline}
 use Rattle.lister.specs.Listing.{modelWord, contradictionWord, field, nameLines, verdictsBy, listingIn}
 use Rattle.lister.specs.Steps.{Room, countsTo}
-use Rattle.lister.proofs.Stored.{put-then, room-first, room-rest}
+use Rattle.lister.proofs.Stored.{put-then, room-second, room-third}
 use Rattle.lister.proofs.Lines.{clear-parts, clash-parts, listing-room}
 use native.Mathlib.Omega.{arith}
 use Rattle.lister.proofs.put_listing.Statement.{statement}
 use Rattle.lister.proofs.put_listing.Tie as tie
 
-abbrev whole : tie.Start → List ℕ
-whole c = listingIn (c .args .t2) (c .args .facts) (c .args .model)
+-- the places: the counts, and in each arm the word, the counts written and the rest
+abbrev at-start : tie.After-count → tie.Start
+at-start c = c .before .before .before .before
+
+abbrev at-clear : tie.After-put-word → tie.After-enum-told
+at-clear c = c .before .before .before
+
+abbrev at-word : tie.After-put-counts → tie.After-put-word
+at-word c = c .before .before .before .before
+
+abbrev at-header : tie.After-put-name-lines → tie.After-put-counts
+at-header c = c .before .before .before .before .before .before .before .before .before
+
+abbrev at-clash : tie.After-put-word2 → tie.After-clash
+at-clash c = c .before .before .before .before
+
+abbrev at-word-2 : tie.After-put-counts2 → tie.After-put-word2
+at-word-2 c = c .before .before .before .before
+
+abbrev at-header-2 : tie.After-put-name-end → tie.After-put-counts2
+at-header-2 c = c .before .before .before .before .before .before .before .before .before
+
+abbrev whole : tie.After-count → List ℕ
+whole c = listingIn (at-start c .args .t2) (at-start c .args .facts) (at-start c .args .model)
 
 abbrev header : tie.After-count → ℕ → List ℕ
 header c stop = countsTo stop (c .before .before .name-count .result) (c .before .rule-count .result) (c .count .result)
 
 abbrev names : tie.After-count → List (List ℕ)
-names c = namesIn (c .before .before .before .before .args .t2 .text) (c .before .before .before .before .args .t2 .lengths) (c .before .before .name-count .result)
+names c = namesIn (at-start c .args .t2 .text) (at-start c .args .t2 .lengths) (c .before .before .name-count .result)
+
+whole-room : (c : tie.After-count) → Room (whole c) 0
+whole-room c = listing-room (at-start c .args .t2) (at-start c .args .facts) (at-start c .args .model)
 
 -- the parts of the listing without a clash
 abbrev lines : tie.After-count → List ℕ
-lines c = nameLines (verdictsBy (c .before .before .before .before .args .model)) 0 (names c)
+lines c = nameLines (verdictsBy (at-start c .args .model)) 0 (names c)
 
-clear : (c : tie.After-enum-told) → whole (c .before .before .before .before .before .before) ≡ field modelWord 44 ++ (header (c .before .before) 10 ++ lines (c .before .before))
+clear : (c : tie.After-enum-told) → whole (c .before .before) ≡ field modelWord comma ++ (header (c .before .before) newline ++ lines (c .before .before))
 clear c =
-    let a = c .before .before .before .before .before .before .args in
-    clear-parts (a .t2) (a .facts) (a .model) (c .before .before .before .before .name-count .ensures) (c .before .before .before .rule-count .ensures) (c .before .before .count .ensures) (c .enum-told .given .1)
+    let counts = c .before .before in
+    clear-parts _ _ _ (counts .before .before .name-count .ensures) (counts .before .rule-count .ensures) (counts .count .ensures) (c .enum-told .given .1)
 
-clear-room : (c : tie.After-enum-told) → Room (field modelWord 44 ++ (header (c .before .before) 10 ++ lines (c .before .before))) 0
-clear-room c = let a = c .before .before .before .before .before .before .args in rw (clear c) at (listing-room (a .t2) (a .facts) (a .model))
+clear-room : (c : tie.After-enum-told) → Room (field modelWord comma ++ (header (c .before .before) newline ++ lines (c .before .before))) 0
+clear-room c = rw (clear c) at (whole-room (c .before .before))
 
 -- the parts of the listing with a clash
 abbrev name : tie.After-clash → List ℕ
-name c = field (getD (names (c .before .before)) (c .clash .given .0 .0) []) 10
+name c = field (getD (names (c .before .before)) (c .clash .given .0 .0) []) newline
 
-clash : (c : tie.After-clash) → whole (c .before .before .before .before .before .before) ≡ field contradictionWord 44 ++ (header (c .before .before) 44 ++ name c)
+clash : (c : tie.After-clash) → whole (c .before .before) ≡ field contradictionWord comma ++ (header (c .before .before) comma ++ name c)
 clash c =
-    let a = c .before .before .before .before .before .before .args in
-    clash-parts (a .t2) (a .facts) (a .model) (c .before .before .before .before .name-count .ensures) (c .before .before .before .rule-count .ensures) (c .before .before .count .ensures) (c .clash .given .0 .0) (c .clash .given .1)
+    let counts = c .before .before in
+    clash-parts _ _ _ (counts .before .before .name-count .ensures) (counts .before .rule-count .ensures) (counts .count .ensures) (c .clash .given .0 .0) (c .clash .given .1)
 
-clash-room : (c : tie.After-clash) → Room (field contradictionWord 44 ++ (header (c .before .before) 44 ++ name c)) 0
-clash-room c = let a = c .before .before .before .before .before .before .args in rw (clash c) at (listing-room (a .t2) (a .facts) (a .model))
+clash-room : (c : tie.After-clash) → Room (field contradictionWord comma ++ (header (c .before .before) comma ++ name c)) 0
+clash-room c = rw (clash c) at (whole-room (c .before .before))
 
 name-count-requires : tie.Need-name-count-requires
 name-count-requires c κs = search needs
@@ -68,23 +94,27 @@ put-word-requires c κs = search needs
 
 put-counts-requires : tie.Need-put-counts-requires
 put-counts-requires c κs =
-    let head = header (c .before .before .before .before .before .before .before .before) 10 in
-    let rest = lines (c .before .before .before .before .before .before .before .before) in
-    room-first head rest (room-rest (field modelWord 44) (head ++ rest) (clear-room (c .before .before .before .before .before .before)) (c .before .before .before .put-word .ensures))
+    let word = c .before .before .before in
+    let counts = at-clear word .before .before in
+    room-second (field modelWord comma) (header counts newline) (lines counts) (clear-room (at-clear word)) (word .put-word .ensures)
 
 put-name-lines-requires : tie.Need-put-name-lines-requires
 put-name-lines-requires c κs =
-    let head = header (c .before .before .before .before .before .before .before .before .before .before .before .before .before .before .before .before .before) 10 in
-    let rest = lines (c .before .before .before .before .before .before .before .before .before .before .before .before .before .before .before .before .before) in
-    let most = clamp-most maxNames (c .before .before .before .before .before .before .before .before .before .before .before .before .before .before .before .before .before .before .before .before .before .args .t2 .names) in
-    let count = c .before .before .before .before .before .before .before .before .before .before .before .before .before .before .before .before .before .before .before .name-count .ensures in
-    (room-rest head rest (room-rest (field modelWord 44) (head ++ rest) (clear-room (c .before .before .before .before .before .before .before .before .before .before .before .before .before .before .before)) (c .before .before .before .before .before .before .before .before .before .before .before .before .put-word .ensures)) (c .before .before .before .before .before .before .before .before .put-counts .ensures), omega arith)
+    let head = c .before .before .before .before .before .before .before .before in
+    let word = at-word head in
+    let counts = at-clear word .before .before in
+    let most = clamp-most maxNames (at-start counts .args .t2 .names) in
+    let count = counts .before .before .name-count .ensures in
+    (room-third (field modelWord comma) (header counts newline) (lines counts) (clear-room (at-clear word)) (word .put-word .ensures) (head .put-counts .ensures), omega arith)
 
 same-length : tie.Need-same-length
 same-length c = search needs
 
 returns : tie.Need-returns
-returns c = rw (clear (c .before .before .before .before .before .before .before .before .before .before .before .before .before .before .before .before .before .before)) (put-then (c .before .before .before .before .before .before .before .before .before .before .before .before .before .before .before .put-word .ensures) (put-then (c .before .before .before .before .before .before .before .before .before .before .before .put-counts .ensures) (c .before .before .put-name-lines .ensures)))
+returns c =
+    let head = at-header (c .before .before) in
+    let word = at-word head in
+    rw (clear (at-clear word)) (put-then (word .put-word .ensures) (put-then (head .put-counts .ensures) (c .before .before .put-name-lines .ensures)))
 
 enum-known-clash : tie.Need-enum-known-clash
 enum-known-clash c = search needs
@@ -97,21 +127,23 @@ put-word-requires-2 c κs = search needs
 
 put-counts-requires-2 : tie.Need-put-counts-requires-2
 put-counts-requires-2 c κs =
-    let head = header (c .before .before .before .before .before .before .before .before .before) 44 in
-    let rest = name (c .before .before .before .before .before .before .before) in
-    room-first head rest (room-rest (field contradictionWord 44) (head ++ rest) (clash-room (c .before .before .before .before .before .before .before)) (c .before .before .before .put-word2 .ensures))
+    let word = c .before .before .before in
+    room-second (field contradictionWord comma) (header (at-clash word .before .before) comma) (name (at-clash word)) (clash-room (at-clash word)) (word .put-word2 .ensures)
 
 put-name-end-requires : tie.Need-put-name-end-requires
 put-name-end-requires c κs =
-    let head = header (c .before .before .before .before .before .before .before .before .before .before .before .before .before .before .before .before .before .before) 44 in
-    let rest = name (c .before .before .before .before .before .before .before .before .before .before .before .before .before .before .before .before) in
-    room-rest head rest (room-rest (field contradictionWord 44) (head ++ rest) (clash-room (c .before .before .before .before .before .before .before .before .before .before .before .before .before .before .before .before)) (c .before .before .before .before .before .before .before .before .before .before .before .before .put-word2 .ensures)) (c .before .before .before .before .before .before .before .before .put-counts2 .ensures)
+    let head = c .before .before .before .before .before .before .before .before in
+    let word = at-word-2 head in
+    room-third (field contradictionWord comma) (header (at-clash word .before .before) comma) (name (at-clash word)) (clash-room (at-clash word)) (word .put-word2 .ensures) (head .put-counts2 .ensures)
 
 same-length-2 : tie.Need-same-length-2
 same-length-2 c = search needs
 
 returns-2 : tie.Need-returns-2
-returns-2 c = rw (clash (c .before .before .before .before .before .before .before .before .before .before .before .before .before .before .before .before .before .before .before)) (put-then (c .before .before .before .before .before .before .before .before .before .before .before .before .before .before .before .put-word2 .ensures) (put-then (c .before .before .before .before .before .before .before .before .before .before .before .put-counts2 .ensures) (c .before .before .put-name-end .ensures)))
+returns-2 c =
+    let head = at-header-2 (c .before .before) in
+    let word = at-word-2 head in
+    rw (clash (at-clash word)) (put-then (word .put-word2 .ensures) (put-then (head .put-counts2 .ensures) (c .before .before .put-name-end .ensures)))
 
 pub put-listing-spec : {M : Type 1} → statement M
 put-listing-spec =

@@ -1,6 +1,6 @@
 -- `put_name_end`: a name of the table, or none.
 use borrow.Author.Needs.{needs}
-use Rattle.lister.proofs.Lines.{name-in, name-past}
+use Rattle.book.proofs.Names.{name-in, name-out}
 use Rattle.lister.proofs.put_name_end.Statement.{statement}
 use Rattle.lister.proofs.put_name_end.Tie as tie
 
@@ -26,7 +26,7 @@ slice-aggregate-put-word c = search needs
 put-word-requires-2 : tie.Need-put-word-requires-2
 put-word-requires-2 c κs =
     let a = c .before .before .before .before .before .before .args in
-    rw (name-past (a .text .now) (a .lengths .now) (a .count) (a .k) (c .before .before .if1 .left)) at (c .before .before .before .before .before .before .pre)
+    rw (name-out (a .text .now) (a .lengths .now) (a .count) (a .k) (c .before .before .if1 .left)) at (c .before .before .before .before .before .before .pre)
 
 same-length-2 : tie.Need-same-length-2
 same-length-2 c = search needs
@@ -34,7 +34,7 @@ same-length-2 c = search needs
 returns-2 : tie.Need-returns-2
 returns-2 c =
     let a = c .before .before .before .before .before .before .before .before .before .args in
-    rw (name-past (a .text .now) (a .lengths .now) (a .count) (a .k) (c .before .before .before .before .before .if1 .left)) (c .before .before .put-word2 .ensures)
+    rw (name-out (a .text .now) (a .lengths .now) (a .count) (a .k) (c .before .before .before .before .before .if1 .left)) (c .before .before .put-word2 .ensures)
 
 pub put-name-end-spec : {M : Type 1} → statement M
 put-name-end-spec =

@@ -1,6 +1,7 @@
 -- `put_verdicts`: two words, one behind the other.
 use borrow.Author.Needs.{needs}
 use Prim.Native.Nat.{_+_, _*_}
+use Rattle.scan.specs.Text.{comma, newline}
 use Rattle.lister.specs.Listing.{verdictWord, verdictsBy, field}
 use Rattle.lister.proofs.Stored.{put-then, room-first, room-rest}
 use Rattle.lister.proofs.put_verdicts.Statement.{statement}
@@ -13,7 +14,7 @@ put-verdict-requires : tie.Need-put-verdict-requires
 put-verdict-requires c κs =
     let a = c .before .before .args in
     let v = verdictsBy (a .model) in
-    room-first (field (verdictWord (v (2 * a .k))) 44) (field (verdictWord (v (2 * a .k + 1))) 10) (c .before .before .pre .0)
+    room-first (field (verdictWord (v (2 * a .k))) comma) (field (verdictWord (v (2 * a .k + 1))) newline) (c .before .before .pre .0)
 
 mul-put-verdict-2 : tie.Need-mul-put-verdict-2
 mul-put-verdict-2 c = search needs
@@ -25,7 +26,7 @@ put-verdict-requires-2 : tie.Need-put-verdict-requires-2
 put-verdict-requires-2 c κs =
     let a = c .before .before .before .before .before .before .args in
     let v = verdictsBy (a .model) in
-    room-rest (field (verdictWord (v (2 * a .k))) 44) (field (verdictWord (v (2 * a .k + 1))) 10) (c .before .before .before .before .before .before .pre .0) (c .before .before .before .put-verdict .ensures)
+    room-rest (field (verdictWord (v (2 * a .k))) comma) (field (verdictWord (v (2 * a .k + 1))) newline) (c .before .before .before .before .before .before .pre .0) (c .before .before .before .put-verdict .ensures)
 
 same-length : tie.Need-same-length
 same-length c = search needs

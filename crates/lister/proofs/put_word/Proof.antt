@@ -20,7 +20,9 @@ same-length : tie.Need-same-length
 same-length c = search needs
 
 returns : tie.Need-returns
-returns c = put-then (put-run (c .before .before .before .before .before .before .before .before .before .before .args .s .now) (c .before .before .before .before .before .before .put-all .ensures)) (put-byte (c .before .before .put8 .ensures))
+returns c =
+    let front = c .before .before .before .before .before .before in
+    put-then (put-run (front .before .before .before .before .args .s .now) (front .put-all .ensures)) (put-byte (c .before .before .put8 .ensures))
 
 pub put-word-spec : {M : Type 1} → statement M
 put-word-spec =

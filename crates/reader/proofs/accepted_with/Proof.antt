@@ -4,13 +4,13 @@ use Rattle.book.specs.declared.Book.{Book}
 use Rattle.reader.specs.Loading.{loadedOf}
 use Rattle.reader.specs.declared.Answer.the-variants.{Accepted}
 use Rattle.reader.specs.declared.Loaded.{Loaded}
-use Rattle.reader.proofs.Judgement.{book-held}
+use Rattle.reader.proofs.Sizes.{book-held}
 use Rattle.reader.proofs.accepted_with.Statement.{statement}
 use Rattle.reader.proofs.accepted_with.Tie as tie
 
 returns : tie.Need-returns
 unfolding loadedOf
-returns c = λ d h. ap {B = Loaded} (λ (x : Book). record { answer = Accepted; book = x }) (book-held h)
+returns c = λ d h s. ap {B = Loaded} (λ (x : Book). record { answer = Accepted; book = x }) (book-held h s)
 
 pub accepted-with-spec : {M : Type 1} → statement M
 accepted-with-spec = tie.close (tie.spec returns)

@@ -1,14 +1,43 @@
 -- `known_of`: the name is what is left behind the marks, and the look-up settles the rest.
 use borrow.Author.Needs.{needs}
-use mathlib.Core.Path.{sym, ap, ap₂, _∙_}
-use Prim.Native.Nat.{ℕ, _+_, _*_}
+use mathlib.Core.Path.{sym, ap, ap₂, _∙_, _≡_}
+use Prim.Native.Nat.{ℕ, _+_, _*_, _<_}
 use Rattle.scan.proofs.Forms.{name-from}
+use Rattle.book.specs.Book.{find}
+use mathlib.Core.List.{List}
 use Rattle.book.specs.Limits.{maxNames}
-use Rattle.book.specs.Book.{clamp, namesIn, find}
+use Rattle.scan.specs.Text.{nameOf}
+use Rattle.book.proofs.Names.{found-small}
+use Rattle.reader.specs.Steps.{tableNames}
 use Rattle.reader.specs.declared.Known.the-variants.{Entry}
-use Rattle.reader.proofs.Fields.{found-small, known-undeclared, known-entry}
+use Rattle.reader.proofs.Fields.{known-undeclared, known-entry}
 use Rattle.reader.proofs.known_of.Statement.{statement}
 use Rattle.reader.proofs.known_of.Tie as tie
+
+-- the places: the marks, and the look-up
+abbrev at-start : tie.After-marks-of → tie.Start
+at-start c = c .before .before .before .before
+
+abbrev at-marks : tie.After-find-in → tie.After-marks-of
+at-marks c = c .before .before .before
+
+abbrev at-look : tie.After-known-told → tie.After-find-in
+at-look c = c .before .before .before
+
+abbrev names-of : tie.After-marks-of → List (List ℕ)
+names-of c = tableNames (at-start c .args .text .now) (at-start c .args .lengths .now) (at-start c .args .count)
+
+-- the name looked up is the field's
+found : (c : tie.After-find-in) → find (names-of (at-marks c)) (nameOf (at-start (at-marks c) .args .f .now)) ≡ c .find-in .result
+found c =
+    let m = at-marks c .marks-of in
+    ap (find (names-of (at-marks c))) (name-from (at-start (at-marks c) .args .f .now) (m .result .tildes) (m .result .minuses) (m .ensures .0) (m .ensures .1)) ∙ sym (c .find-in .ensures)
+
+-- its number is small
+small : (c : tie.After-known-told) → c .before .i .given .0 .0 < maxNames
+small c =
+    let a = at-start (at-marks (at-look c)) .args in
+    found-small (a .text .now) (a .lengths .now) (a .count) _ (c .before .i .given .0 .0) (sym (at-look c .find-in .ensures) ∙ c .before .i .given .1)
 
 marks-of-requires : tie.Need-marks-of-requires
 marks-of-requires c κs = search needs
@@ -35,35 +64,23 @@ enum-told : tie.Need-enum-told
 enum-told c = search needs
 
 returns : tie.Need-returns
-returns c =
-    let a = c .before .before .before .before .before .before .before .before .before .args in
-    let m = c .before .before .before .before .before .marks-of in
-    let names = namesIn (a .text .now) (a .lengths .now) (clamp maxNames (a .count)) in
-    sym (known-undeclared names (a .f .now)
-    (ap (find names) (name-from (a .f .now) (m .result .tildes) (m .result .minuses) (m .ensures .0) (m .ensures .1)) ∙ sym (c .before .before .find-in .ensures) ∙ c .enum-told .given .1))
+returns c = let look = c .before .before in sym (known-undeclared (names-of (at-marks look)) _ (found look ∙ c .enum-told .given .1))
 
 mul-t10 : tie.Need-mul-t10
-mul-t10 c =
-    let a = c .before .before .before .before .before .before .before .before .before .before .args in
-    let small = found-small (a .text .now) (a .lengths .now) (a .count) _ (c .before .i .given .0 .0) (sym (c .before .before .before .find-in .ensures) ∙ c .before .i .given .1) in
-    search needs
+mul-t10 c = let few = small c in search needs
 
 add-t13 : tie.Need-add-t13
 add-t13 c =
-    let a = c .before .before .before .before .before .before .before .before .before .before .before .args in
-    let small = found-small (a .text .now) (a .lengths .now) (a .count) _ (c .before .before .i .given .0 .0) (sym (c .before .before .before .before .find-in .ensures) ∙ c .before .before .i .given .1) in
-    let few = c .before .before .before .before .before .before .before .marks-of .ensures .2 in
+    let few = small (c .before) in
+    let marks = at-marks (at-look (c .before)) .marks-of .ensures .2 in
     search needs
 
 returns-2 : tie.Need-returns-2
 returns-2 c =
-    let a = c .before .before .before .before .before .before .before .before .before .before .before .args in
-    let m = c .before .before .before .before .before .before .before .marks-of in
+    let look = at-look (c .before) in
+    let m = at-marks look .marks-of in
     let i = c .before .before .i .given .0 .0 in
-    let names = namesIn (a .text .now) (a .lengths .now) (clamp maxNames (a .count)) in
-    ap₂ (λ (x y : ℕ). Entry (2 * i + x) y) (m .ensures .1) (m .ensures .0)
-    ∙ sym (known-entry names (a .f .now) i
-    (ap (find names) (name-from (a .f .now) (m .result .tildes) (m .result .minuses) (m .ensures .0) (m .ensures .1)) ∙ sym (c .before .before .before .before .find-in .ensures) ∙ c .before .before .i .given .1))
+    ap₂ (λ (x y : ℕ). Entry (2 * i + x) y) (m .ensures .1) (m .ensures .0) ∙ sym (known-entry (names-of (at-marks look)) _ i (found look ∙ c .before .before .i .given .1))
 
 pub known-of-spec : {M : Type 1} → statement M
 known-of-spec =

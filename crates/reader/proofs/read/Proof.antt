@@ -1,16 +1,28 @@
 -- `read`: each test of the whole file that fails settles its number, in the definition's order; the rest is the lines.
 use borrow.Author.Needs.{needs}
-use mathlib.Core.Path.{sym, ap, _∙_}
+use mathlib.Core.Path.{sym, ap, _∙_, _≡_}
 use Prim.Native.Nat.{ℕ, _-_}
 use native.Mathlib.Nat.{sub-zero}
 use lib.ListN.{length, take}
 use borrow.Author.Tests.{not-true, not-false}
-use Rattle.scan.specs.Text.{split}
+use Rattle.scan.specs.Text.{split, newline, isText, allBytes}
+use mathlib.Core.List.{List}
+use mathlib.Core.Bool.{true}
 use Rattle.reader.specs.File.{nothingYet, readLines}
 use Rattle.reader.specs.Loading.{loadedOf}
-use Rattle.reader.proofs.Judgement.{file-long, file-bytes, file-unended, file-lines, no-bytes, last-other, last-ends}
+use Rattle.reader.proofs.Whole.{file-long, file-bytes, file-unended, file-lines, no-bytes, last-other, last-ends}
 use Rattle.reader.proofs.read.Statement.{statement}
 use Rattle.reader.proofs.read.Tie as tie
+
+-- the places: the tests one by one
+abbrev at-start : tie.After-all-text → tie.Start
+at-start c = c .before .before .before
+
+abbrev file-of : tie.After-all-text → List ℕ
+file-of c = at-start c .args .file .now
+
+texts : (c : tie.Else2) → allBytes isText (file-of (c .before)) ≡ true
+texts c = sym (c .before .all-text .ensures) ∙ not-false (c .before .all-text .result) (c .if2 .left)
 
 refusal-requires : tie.Need-refusal-requires
 refusal-requires c κs = search needs
@@ -26,17 +38,18 @@ refusal-requires-2 c κs = search needs
 
 returns-2 : tie.Need-returns-2
 returns-2 c =
-    let s = c .before .before .before .before .before .args .file .now in
-    c .refusal2 .ensures ∙ ap loadedOf (sym (file-bytes s (c .before .before .before .if1 .left) (sym (c .before .before .all-text .ensures) ∙ not-true (c .before .before .all-text .result) (c .before .if2 .taken))))
+    let tested = c .before .before in
+    c .refusal2 .ensures
+    ∙ ap loadedOf (sym (file-bytes (file-of tested) (tested .before .if1 .left) (sym (tested .all-text .ensures) ∙ not-true (tested .all-text .result) (c .before .if2 .taken))))
 
 refusal-requires-3 : tie.Need-refusal-requires-3
 refusal-requires-3 c κs = search needs
 
 returns-3 : tie.Need-returns-3
 returns-3 c =
-    let s = c .before .before .before .before .before .before .args .file .now in
-    c .refusal3 .ensures
-    ∙ ap loadedOf (sym (file-unended s (c .before .before .before .before .if1 .left) (sym (c .before .before .before .all-text .ensures) ∙ not-false (c .before .before .before .all-text .result) (c .before .before .if2 .left)) (no-bytes s (c .before .if3 .taken))))
+    let text = c .before .before in
+    let file = file-of (text .before) in
+    c .refusal3 .ensures ∙ ap loadedOf (sym (file-unended file (text .before .before .if1 .left) (texts text) (no-bytes file (c .before .if3 .taken))))
 
 sub-if4 : tie.Need-sub-if4
 sub-if4 c = search needs
@@ -49,9 +62,10 @@ refusal-requires-4 c κs = search needs
 
 returns-4 : tie.Need-returns-4
 returns-4 c =
-    let s = c .before .before .before .before .before .before .before .before .args .file .now in
-    c .refusal4 .ensures
-    ∙ ap loadedOf (sym (file-unended s (c .before .before .before .before .before .before .if1 .left) (sym (c .before .before .before .before .before .all-text .ensures) ∙ not-false (c .before .before .before .before .before .all-text .result) (c .before .before .before .before .if2 .left)) (last-other s (c .before .before .before .if3 .left) (c .before .if4 .taken))))
+    let some = c .before .before .before in
+    let text = some .before in
+    let file = file-of (text .before) in
+    c .refusal4 .ensures ∙ ap loadedOf (sym (file-unended file (text .before .before .if1 .left) (texts text) (last-other file (some .if3 .left) (c .before .if4 .taken))))
 
 sub-read-lines : tie.Need-sub-read-lines
 sub-read-lines c = search needs
@@ -70,10 +84,12 @@ read-lines-requires c κs = search needs
 
 returns-5 : tie.Need-returns-5
 returns-5 c =
-    let s = c .before .before .before .before .before .before .before .before .before .args .file .now in
+    let some = c .before .before .before .before in
+    let text = some .before in
+    let file = file-of (text .before) in
     c .read-lines .ensures
-    ∙ ap loadedOf (ap (λ (n : ℕ). readLines nothingYet 1 (split 10 (take n s))) (sub-zero (length s - 1))
-    ∙ sym (file-lines s (c .before .before .before .before .before .before .before .if1 .left) (sym (c .before .before .before .before .before .before .all-text .ensures) ∙ not-false (c .before .before .before .before .before .before .all-text .result) (c .before .before .before .before .before .if2 .left)) (last-ends s (c .before .before .before .before .if3 .left) (c .before .before .if4 .left))))
+    ∙ ap loadedOf (ap (λ (n : ℕ). readLines nothingYet 1 (split newline (take n file))) (sub-zero (length file - 1))
+    ∙ sym (file-lines file (text .before .before .if1 .left) (texts text) (last-ends file (some .if3 .left) (c .before .before .if4 .left))))
 
 pub read-spec : {M : Type 1} → statement M
 read-spec =

@@ -1,15 +1,18 @@
--- `read_lines`: the lines passed have no fault and what they say stands in the tables, so the lines that are left decide.
+-- `read_lines`: the lines passed have no fault and what they say is held and stored, so the lines that are left decide.
 use borrow.Author.Needs.{needs}
-use mathlib.Core.Path.{sym, ap, _∙_}
+use mathlib.Core.Path.{_≡_, sym, ap, _∙_}
 use mathlib.Core.Bool.{Bool, cond}
-use Prim.Native.Nat.{_+_, _-_, _≤_}
+use mathlib.Core.List.{List}
+use Prim.Native.Nat.{ℕ, _+_, _-_, _≤_}
+use native.Mathlib.Omega.{arith}
 use lib.ListN.{length, take, drop}
 use borrow.Author.Tests.{not-true, not-false}
-use Rattle.scan.specs.Text.{fields}
-use Rattle.reader.specs.File.{lineFault, withLine, accepted, refused}
+use Rattle.scan.specs.Text.{newline, split, fields}
+use Rattle.reader.specs.File.{nothingYet, accepted, refused, readLines, withLine}
 use Rattle.reader.specs.Loading.{loadedOf}
-use Rattle.reader.proofs.Judgement.{lines-go, lines-stop, lines-end, ReadTo, read-none, text-size, lengths-size, heads-size, starts-size, entries-size, was-fine, was-fault}
-use native.Mathlib.Omega.{arith}
+use Rattle.reader.proofs.Answers.{was-fine, was-fault}
+use Rattle.reader.proofs.Progress.{lines-go, lines-stop, lines-end, ReadTo, read-none}
+use Rattle.reader.proofs.Sizes.{text-size, lengths-size, heads-size, starts-size, entries-size}
 use Rattle.reader.proofs.read_lines.Statement.{statement}
 use Rattle.reader.proofs.read_lines.Tie as tie
 
@@ -19,6 +22,42 @@ Inv-loop b text₀ lengths₀ heads₀ starts₀ entries₀ t₀ at₀ number₀
 
 abbrev μ-loop : tie.MeasureT-loop
 μ-loop b text₀ lengths₀ heads₀ starts₀ entries₀ t₀ at₀ number₀ text lengths heads starts entries t at number = length b + 1 - at
+
+-- ---- the places: the loop's head, the end of a line, the line judged, and its answer
+
+abbrev bytes-of : tie.At-loop Inv-loop μ-loop → List ℕ
+bytes-of c = c .before .before .before .args .b .now
+
+abbrev at-loop : tie.After-end-of Inv-loop μ-loop → tie.At-loop Inv-loop μ-loop
+at-loop c = c .before .before
+
+abbrev at-end : tie.After-judge Inv-loop μ-loop → tie.After-end-of Inv-loop μ-loop
+at-end c = c .before .before .before .before .before .before .before
+
+abbrev at-fine : tie.After-known-told Inv-loop μ-loop → tie.After-judge Inv-loop μ-loop
+at-fine c = c .before .before .before .before .before .before .before .before
+
+abbrev at-fault : tie.After-refusal Inv-loop μ-loop → tie.After-judge Inv-loop μ-loop
+at-fault c = c .before .before .before .before .before .before .before .before .before
+
+-- the fields of the line that ends there
+abbrev line-at : tie.After-end-of Inv-loop μ-loop → List (List ℕ)
+line-at c = fields (take (c .end-of .result - at-loop c .loop .at) (drop (at-loop c .loop .at) (bytes-of (at-loop c))))
+
+inside : (c : tie.After-end-of Inv-loop μ-loop) → c .end-of .result ≤ length (bytes-of (at-loop c))
+inside c = c .end-of .ensures .2 (c .before .loop-test .taken)
+
+-- the outcome, where no line is left
+last : (c : tie.After-loop Inv-loop μ-loop) {x : Bool} → c .before .loop .t .ended ≡ x
+    → cond x (accepted (c .before .loop .inv .2 .content .names) (c .before .loop .inv .2 .content .rules)) (refused 9 (c .before .loop .number))
+    ≡ readLines nothingYet 1 (split newline (bytes-of (c .before)))
+last c {x} e =
+    let was = c .before .loop in
+    let d = was .inv .2 .content in
+    sym (lines-end d (was .number) (bytes-of (c .before)) (was .at) (c .loop-test .left)
+    ∙ ap (λ (z : Bool). cond z (accepted (d .names) (d .rules)) (refused 9 (was .number))) (sym (was .inv .2 .held .counted .ended-is) ∙ e)) ∙ was .inv .2 .same
+
+-- ---- the needs
 
 none-yet-requires : tie.Need-none-yet-requires Inv-loop μ-loop
 none-yet-requires c κs = search needs
@@ -30,19 +69,28 @@ end-of-requires : tie.Need-end-of-requires Inv-loop μ-loop
 end-of-requires c κs = search needs
 
 slice-aggregate-judge : tie.Need-slice-aggregate-judge Inv-loop μ-loop
-slice-aggregate-judge c = let size = text-size (c .before .before .before .loop .inv .2 .held) in search needs
+slice-aggregate-judge c = let size = text-size (at-loop (c .before) .loop .inv .2 .held) in search needs
 
 slice-aggregate-judge-2 : tie.Need-slice-aggregate-judge-2 Inv-loop μ-loop
-slice-aggregate-judge-2 c = let size = lengths-size (c .before .before .before .before .loop .inv .2 .held) in search needs
+slice-aggregate-judge-2 c = let size = lengths-size (at-loop (c .before .before) .loop .inv .2 .held) in search needs
 
 slice-aggregate-judge-3 : tie.Need-slice-aggregate-judge-3 Inv-loop μ-loop
-slice-aggregate-judge-3 c = let size = heads-size (c .before .before .before .before .before .loop .inv .2 .held) in search needs
+slice-aggregate-judge-3 c =
+    let read = at-loop (c .before .before .before) .loop .inv .2 in
+    let size = heads-size (read .held) (read .stored) in
+    search needs
 
 slice-aggregate-judge-4 : tie.Need-slice-aggregate-judge-4 Inv-loop μ-loop
-slice-aggregate-judge-4 c = let size = starts-size (c .before .before .before .before .before .before .loop .inv .2 .held) in search needs
+slice-aggregate-judge-4 c =
+    let read = at-loop (c .before .before .before .before) .loop .inv .2 in
+    let size = starts-size (read .held) (read .stored) in
+    search needs
 
 slice-aggregate-judge-5 : tie.Need-slice-aggregate-judge-5 Inv-loop μ-loop
-slice-aggregate-judge-5 c = let size = entries-size (c .before .before .before .before .before .before .before .loop .inv .2 .held) in search needs
+slice-aggregate-judge-5 c =
+    let read = at-loop (c .before .before .before .before .before) .loop .inv .2 in
+    let size = entries-size (read .held) (read .stored) in
+    search needs
 
 sub-judge : tie.Need-sub-judge Inv-loop μ-loop
 sub-judge c = search needs
@@ -51,12 +99,10 @@ part-judge-start : tie.Need-part-judge-start Inv-loop μ-loop
 part-judge-start c = search needs
 
 part-judge-end : tie.Need-part-judge-end Inv-loop μ-loop
-part-judge-end c = let within = c .before .before .before .before .before .end-of .ensures .2 (c .before .before .before .before .before .before .loop-test .taken) in search needs
+part-judge-end c = let within = inside (c .before .before .before .before .before) in search needs
 
 judge-requires : tie.Need-judge-requires Inv-loop μ-loop
-judge-requires c κs =
-    let held = c .before .before .before .before .before .before .before .before .loop .inv .2 .held in
-    (omega (arith, held .names-held .counted, held .names-held .few), omega (arith, held .rules-held .counted, held .rules-held .few), held .rules-held .room)
+judge-requires c κs = at-loop (c .before .before .before .before .before .before) .loop .inv .2 .held .counted .fits
 
 enum-known-u : tie.Need-enum-known-u Inv-loop μ-loop
 enum-known-u c = search needs
@@ -69,43 +115,43 @@ refusal-requires c κs = search needs
 
 returns : tie.Need-returns Inv-loop μ-loop
 returns c =
-    let b = c .before .before .before .before .before .before .before .before .before .before .before .before .before .before .before .before .before .before .before .before .before .args .b .now in
-    let was = c .before .before .before .before .before .before .before .before .before .before .before .before .before .before .before .before .before .before .loop in
+    let judged = at-fault c in
+    let end = at-end judged in
+    let was = at-loop end .loop in
     let read = was .inv .2 in
-    let d = c .before .before .before .before .before .before .before .before .before .before .before .before .before .before .before .before in
-    let line = fields (take (d .end-of .result - was .at) (drop (was .at) b)) in
-    let told = was-fault (lineFault (read .content) line) (withLine (read .content) line) _ _ _ _ _ _ (c .before .before .before .before .before .before .before .before .before .judge .ensures (read .content) (read .held)) (c .before .before .k .given .0 .0) (c .before .before .k .given .1) in
+    let told = was-fault (judged .judge .ensures (read .content) (read .held)) (c .before .before .k .given .1) in
     c .refusal .ensures
-    ∙ ap loadedOf (sym (lines-stop (read .content) (was .number) b (was .at) (d .end-of .result) (d .before .loop-test .taken) (d .end-of .ensures .0) _ (told .0) (told .1)) ∙ read .same)
+    ∙ ap loadedOf (sym (lines-stop (read .content) (was .number) (bytes-of (at-loop end)) (was .at) (end .end-of .result) (end .before .loop-test .taken) (end .end-of .ensures .0) _ (told .0) (told .1)) ∙ read .same)
 
 add-at : tie.Need-add-at Inv-loop μ-loop
-add-at c = let within = c .before .before .before .before .before .before .before .before .before .before .before .before .before .before .before .end-of .ensures .2 (c .before .before .before .before .before .before .before .before .before .before .before .before .before .before .before .before .loop-test .taken) in omega arith
+add-at c = let within = inside (at-end (at-fine c)) in omega arith
 
 add-number : tie.Need-add-number Inv-loop μ-loop
 add-number c = omega arith
 
 loop-less : tie.Need-loop-less Inv-loop μ-loop
 loop-less c =
-    let within = c .before .before .before .before .before .before .before .before .before .before .before .before .before .before .before .end-of .ensures .2 (c .before .before .before .before .before .before .before .before .before .before .before .before .before .before .before .before .loop-test .taken) in
-    let up = c .before .before .before .before .before .before .before .before .before .before .before .before .before .before .before .end-of .ensures .1 in
+    let within = inside (at-end (at-fine c)) in
+    let up = at-end (at-fine c) .end-of .ensures .1 in
     omega arith
 
 loop-again : tie.Need-loop-again Inv-loop μ-loop
 loop-again c =
-    let b = c .before .before .before .before .before .before .before .before .before .before .before .before .before .before .before .before .before .before .before .before .args .b .now in
-    let was = c .before .before .before .before .before .before .before .before .before .before .before .before .before .before .before .before .before .loop in
+    let judged = at-fine c in
+    let end = at-end judged in
+    let was = at-loop end .loop in
     let read = was .inv .2 in
-    let d = c .before .before .before .before .before .before .before .before .before .before .before .before .before .before .before in
-    let line = fields (take (d .end-of .result - was .at) (drop (was .at) b)) in
-    let within = d .end-of .ensures .2 (d .before .loop-test .taken) in
-    let up = d .end-of .ensures .1 in
-    let told = was-fine (lineFault (read .content) line) (withLine (read .content) line) _ _ _ _ _ _ (c .before .before .before .before .before .before .before .before .judge .ensures (read .content) (read .held)) (c .before .u .given .0 .0) (c .before .u .given .1) in (
+    let within = inside end in
+    let up = end .end-of .ensures .1 in
+    let line = judged .judge .ensures (read .content) (read .held) in
+    let told = was-fine line (c .before .u .given .1) in (
       omega arith,
       omega arith,
       record {
-        content = withLine (read .content) line;
+        content = withLine (read .content) (line-at end);
         held = told .1;
-        same = sym (lines-go (read .content) (was .number) b (was .at) (d .end-of .result) (d .before .loop-test .taken) (d .end-of .ensures .0) (told .0)) ∙ read .same;
+        stored = line .stored (told .0) (read .stored);
+        same = sym (lines-go (read .content) (was .number) (bytes-of (at-loop end)) (was .at) (end .end-of .result) (end .before .loop-test .taken) (end .end-of .ensures .0) (told .0)) ∙ read .same;
       },
     )
 
@@ -113,23 +159,16 @@ refusal-requires-2 : tie.Need-refusal-requires-2 Inv-loop μ-loop
 refusal-requires-2 c κs = search needs
 
 returns-2 : tie.Need-returns-2 Inv-loop μ-loop
-returns-2 c =
-    let was = c .before .before .before .before .loop in
-    let read = was .inv .2 in
-    let none = sym (read .held .ended-is) ∙ not-true (was .t .ended) (c .before .if1 .taken) in
-    c .refusal2 .ensures
-    ∙ ap loadedOf (sym (lines-end (read .content) (was .number) (c .before .before .before .before .before .before .before .args .b .now) (was .at) (c .before .before .before .loop-test .left) ∙ ap (λ (x : Bool). cond x (accepted (read .content .names) (read .content .rules)) (refused 9 (was .number))) none) ∙ read .same)
+returns-2 c = c .refusal2 .ensures ∙ ap loadedOf (last (c .before .before .before) (not-true _ (c .before .if1 .taken)))
 
 accepted-with-requires : tie.Need-accepted-with-requires Inv-loop μ-loop
 accepted-with-requires c κs = search needs
 
 returns-3 : tie.Need-returns-3 Inv-loop μ-loop
 returns-3 c =
-    let was = c .before .before .before .before .loop in
-    let read = was .inv .2 in
-    let came = sym (read .held .ended-is) ∙ not-false (was .t .ended) (c .before .if1 .left) in
-    c .accepted-with .ensures (read .content) (read .held)
-    ∙ ap loadedOf (sym (lines-end (read .content) (was .number) (c .before .before .before .before .before .before .before .args .b .now) (was .at) (c .before .before .before .loop-test .left) ∙ ap (λ (x : Bool). cond x (accepted (read .content .names) (read .content .rules)) (refused 9 (was .number))) came) ∙ read .same)
+    let done = c .before .before .before in
+    let read = done .before .loop .inv .2 in
+    c .accepted-with .ensures (read .content) (read .held) (read .stored) ∙ ap loadedOf (last done (not-false _ (c .before .if1 .left)))
 
 pub read-lines-spec : {M : Type 1} → statement M
 read-lines-spec =

@@ -1,69 +1,106 @@
--- `rule_line`: each test that fails settles the fault, in the definition's order; a rule that passes them is stored behind the others.
+-- `rule_line`: each test that fails settles the fault, in the definition's order; a rule that passes them is counted, and stored behind the others.
 use borrow.Author.Needs.{needs}
 use mathlib.Core.Path.{_≡_, sym, ap, _∙_}
-use mathlib.Core.Bool.{true, false, not, _||_}
-use mathlib.Core.List.{List, _∷_, map, map-map}
-use Prim.Native.Nat.{ℕ, _+_, _-_, _≤_}
-use lib.ListN.{length, take, drop, set, length-map}
-use lib.Seq.{sets}
-use borrow.Author.Tests.{not-true, not-false}
-use Rattle.scan.specs.Text.{rest, nameOf}
-use Rattle.scan.proofs.Places.{rest-step}
-use Rattle.book.specs.Limits.{maxNames}
-use Rattle.book.specs.Book.{clamp, namesIn, codeOf}
-use Rattle.reader.specs.File.{allFields, isLiteral, headTilde, declared, literalNumber, entryFrom}
-use Rattle.reader.proofs.Fields.{fields-go, fields-stop, not-declared, is-declared, literal-is, known-small}
-use Rattle.reader.proofs.Held.{when-none, when-some, held-names, rule-malformed, rule-undeclared, rule-too-many, rule-too-long, rule-fine, rule-added}
+use mathlib.Core.Bool.{false}
+use mathlib.Core.List.{List, _∷_}
+use Prim.Native.Nat.{ℕ, _+_, _-_, _≤_, zero-le, _<_}
 use native.Mathlib.Omega.{arith}
+use lib.ListN.{length, take, drop, set}
+use borrow.Author.Tests.{not-true, not-false}
+use Rattle.scan.specs.Text.{comma, rest, fields}
+use Rattle.scan.specs.declared.Word.the-variants.{Rule as RuleWord}
+use Rattle.book.specs.Limits.{maxRules, maxEntries}
+use Rattle.reader.specs.File.{Content, allFields, isKnown, malformed}
+use Rattle.reader.specs.Steps.{Holds, knownOf, FieldsKnown, wordStep}
+use Rattle.reader.specs.declared.Known.{Known}
+use Rattle.reader.specs.declared.Known.the-variants.{Entry}
+use Rattle.reader.proofs.Fields.{first-field, first-passes, first-fails, not-declared, is-declared, literal-is, known-small, known-among}
+use Rattle.reader.proofs.Numbers.{rule-malformed, rule-undeclared, rule-too-many, rule-too-long, rule-fine}
+use Rattle.reader.proofs.Held.{held-names, rule-held, rule-stored}
+use Rattle.reader.proofs.Answers.{line-fault}
 use Rattle.reader.proofs.rule_line.Statement.{statement}
 use Rattle.reader.proofs.rule_line.Tie as tie
 
--- the names of the tables
-abbrev names-in : tie.Start → List (List ℕ)
-names-in s = namesIn (s .args .text .now) (s .args .lengths .now) (clamp maxNames (s .args .t .names))
+-- ---- the places: the forms, the head's end, the head looked up, the body looked up, the tests of the counts, and behind the stores
 
--- the rule's fields
-abbrev fields-of : tie.Start → List (List ℕ)
-fields-of s = rest 44 (s .args .line .now) (s .args .from)
+abbrev at-start : tie.After-well-formed → tie.Start
+at-start c = c .before .before .before .before .before .before .before
+
+abbrev at-forms : tie.After-end-of → tie.After-well-formed
+at-forms c = c .before .before
+
+abbrev at-head : tie.After-known-told → tie.After-known-of
+at-head c = c .before .before .before
+
+abbrev at-end : tie.After-known-told → tie.After-end-of
+at-end c = at-head c .before .before
+
+abbrev at-body : tie.Else2 → tie.After-all-known
+at-body c = c .before .before .before
+
+abbrev at-known : tie.After-all-known → tie.After-known-told
+at-known c = c .before .before
+
+abbrev at-stores : tie.After-slice-known6 → tie.Else4
+at-stores c = c .before .before .before .before .before .before .before .before
+
+-- ---- what is known there
+
+-- the lines before say d
+abbrev Said : tie.After-well-formed → Content → Type 0
+Said c d = Holds d (at-start c .args .t) (at-start c .args .text .now) (at-start c .args .lengths .now)
+
+abbrev fields-of : tie.After-well-formed → List (List ℕ)
+fields-of c = fields (at-start c .args .rule .now)
 
 -- the head's field, and the fields behind it
 abbrev head-field : tie.After-end-of → List ℕ
-head-field c = take (c .end-of .result - c .before .before .before .before .before .before .before .before .before .args .from) (drop (c .before .before .before .before .before .before .before .before .before .args .from) (c .before .before .before .before .before .before .before .before .before .args .line .now))
+head-field c = take (c .end-of .result - 0) (drop 0 (at-start (at-forms c) .args .rule .now))
 
 abbrev others : tie.After-end-of → List (List ℕ)
-others c = rest 44 (c .before .before .before .before .before .before .before .before .before .args .line .now) (c .end-of .result + 1)
+others c = rest comma (at-start (at-forms c) .args .rule .now) (c .end-of .result + 1)
 
-parted : (c : tie.After-end-of) → fields-of (c .before .before .before .before .before .before .before .before .before) ≡ head-field c ∷ others c
-parted c = rest-step 44 (c .before .before .before .before .before .before .before .before .before .args .line .now) (c .before .before .before .before .before .before .before .before .before .args .from) (c .end-of .result) (c .before .before .before .before .before .before .before .before .before .pre .2) (c .end-of .ensures .0)
+parted : (c : tie.After-end-of) → fields-of (at-forms c) ≡ head-field c ∷ others c
+parted c = first-field (at-start (at-forms c) .args .rule .now) (c .end-of .result) (c .end-of .ensures .0)
 
-inside : (c : tie.After-end-of) → c .end-of .result ≤ length (c .before .before .before .before .before .before .before .before .before .args .line .now)
-inside c = c .end-of .ensures .2 (c .before .before .before .before .before .before .before .before .before .pre .2)
+inside : (c : tie.After-end-of) → c .end-of .result ≤ length (at-start (at-forms c) .args .rule .now)
+inside c = c .end-of .ensures .2 zero-le
 
 -- no field is malformed and the head has no `~`
-formed : (c : tie.Else1) → (headTilde (fields-of (c .before .before .before .before .before .before .before .before)) || not (allFields isLiteral (fields-of (c .before .before .before .before .before .before .before .before)))) ≡ false
-formed c = when-none 5 _ (c .before .rule-form .result) (c .before .rule-form .ensures) (c .if1 .left) (λ e. omega arith)
+formed : (c : tie.After-end-of) → malformed RuleWord (fields-of (at-forms c)) ≡ false
+formed c = not-true _ (sym (at-forms c .well-formed .ensures) ∙ not-false _ (c .before .if1 .left))
 
--- the head's name is declared, so the fields behind it decide
-head-known : (c : tie.After-known-told) {names : List (List ℕ)} → names-in (c .before .before .before .before .before .before .before .before .before .before .before .before .before .before) ≡ names
-    → allFields (λ f. declared names (nameOf f)) (fields-of (c .before .before .before .before .before .before .before .before .before .before .before .before .before .before)) ≡ allFields (λ f. declared names (nameOf f)) (others (c .before .before .before .before .before))
-head-known c {names} e =
-    let end = c .before .before .before .before .before in
-    let head : declared (names-in (c .before .before .before .before .before .before .before .before .before .before .before .before .before .before)) (nameOf (head-field end)) ≡ true = is-declared (names-in (c .before .before .before .before .before .before .before .before .before .before .before .before .before .before)) (head-field end) _ _ (sym (c .before .before .before .known-of .ensures) ∙ c .before .literal .given .1) in
-    fields-go (λ f. declared names (nameOf f)) (c .before .before .before .before .before .before .before .before .before .before .before .before .before .before .args .line .now) (c .before .before .before .before .before .before .before .before .before .before .before .before .before .before .args .from) (end .end-of .result) (c .before .before .before .before .before .before .before .before .before .before .before .before .before .before .pre .2) (end .end-of .ensures .0) (sym (ap (λ (l : List (List ℕ)). declared l (nameOf (head-field end))) e) ∙ head)
+-- the head looked up among the names said
+looked-up : (c : tie.After-known-of) {d : Content} → Said (at-forms (c .before .before)) d → {k : Known} → c .known-of .result ≡ k → knownOf (d .names) (head-field (c .before .before)) ≡ k
+looked-up c h e = ap (λ (l : List (List ℕ)). knownOf l (head-field (c .before .before))) (sym (held-names h)) ∙ sym (c .known-of .ensures) ∙ e
 
--- all names are declared
-all-known : (c : tie.Else2) {names : List (List ℕ)} → names-in (c .before .before .before .before .before .before .before .before .before .before .before .before .before .before .before .before .before .before .before) ≡ names → allFields (λ f. declared names (nameOf f)) (fields-of (c .before .before .before .before .before .before .before .before .before .before .before .before .before .before .before .before .before .before .before)) ≡ true
-all-known c e =
-    head-known (c .before .before .before .before .before) e ∙ sym (ap (λ (l : List (List ℕ)). allFields (λ f. declared l (nameOf f)) (others (c .before .before .before .before .before .before .before .before .before .before))) e)
-    ∙ not-false _ (when-none 7 _ (c .before .before .before .body-entries .result) (c .before .before .before .body-entries .ensures .0) (c .if2 .left) (λ q. omega arith))
+head-entry : (c : tie.After-known-told) {d : Content} → Said (at-forms (at-end c)) d
+    → knownOf (d .names) (head-field (at-end c)) ≡ Entry (c .before .literal .given .0 .0) (c .before .literal .given .0 .1 .0)
+head-entry c h = looked-up (at-head c) h (c .before .literal .given .1)
 
-rule-form-requires : tie.Need-rule-form-requires
-rule-form-requires c κs = search needs
+-- the body looked up among the names said
+body-known : (c : tie.After-all-known) {d : Content} → Said (at-forms (at-end (at-known c))) d
+    → FieldsKnown (d .names) (others (at-end (at-known c))) (at-start (at-forms (at-end (at-known c))) .args .t .used) (c .all-known .result) (at-start (at-forms (at-end (at-known c))) .args .entries .now) (c .all-known .last .1 .1 .1 .0)
+body-known c h = known-among (held-names h) (c .all-known .ensures)
+
+-- the fields behind the head decide whether all names are declared
+known-by-body : (c : tie.After-all-known) {d : Content} → Said (at-forms (at-end (at-known c))) d
+    → allFields (isKnown (d .names)) (fields-of (at-forms (at-end (at-known c)))) ≡ c .all-known .result
+known-by-body c {d} h =
+    let end = at-end (at-known c) in
+    ap (allFields (isKnown (d .names))) (parted end) ∙ first-passes (isKnown (d .names)) _ _ (is-declared (d .names) (head-field end) _ _ (head-entry (at-known c) h))
+    ∙ sym (body-known c h .answer-is)
+
+-- ---- the needs
+
+well-formed-requires : tie.Need-well-formed-requires
+well-formed-requires c κs = search needs
 
 returns : tie.Need-returns
 returns c =
-    let bad = when-some 5 _ (c .before .rule-form .result) (c .before .rule-form .ensures) (c .if1 .taken) in
-    λ names rules nh rh. record { fault-is = rule-malformed names rules (fields-of (c .before .before .before .before .before .before .before .before)) bad; added = λ e. absurd (omega arith) }
+    let s = at-start (c .before) in
+    let bad = not-false _ (sym (c .before .well-formed .ensures) ∙ not-true _ (c .if1 .taken)) in
+    λ d h. line-fault (wordStep d RuleWord (fields-of (c .before))) (rule-malformed (h .counted) (s .pre .1) _ (s .args .n) (s .pre .3) (s .pre .2) bad) (λ z. omega arith)
 
 end-of-requires : tie.Need-end-of-requires
 end-of-requires c κs = search needs
@@ -88,42 +125,43 @@ enum-told c = search needs
 
 returns-2 : tie.Need-returns-2
 returns-2 c =
-    let s = c .before .before .before .before .before .before .before .before .before .before .before .before .before in
-    let end = c .before .before .before .before in
-    let head : declared (names-in s) (nameOf (head-field end)) ≡ false = not-declared (names-in s) _ (sym (c .before .before .known-of .ensures) ∙ c .enum-told .given .1) in
-    λ names rules nh rh. record {
-      fault-is = rule-undeclared names rules (fields-of s) (formed (c .before .before .before .before .before))
-          (fields-stop (λ f. declared names (nameOf f)) (s .args .line .now) (s .args .from) (end .end-of .result) (s .pre .2) (end .end-of .ensures .0) (sym (ap (λ (l : List (List ℕ)). declared l (nameOf (head-field end))) (held-names nh)) ∙ head));
-      added = λ q. absurd (omega arith);
-    }
+    let looked = c .before .before in
+    let end = looked .before .before in
+    let s = at-start (at-forms end) in
+    λ d h. let unknown = not-declared (d .names) (head-field end) (looked-up looked h (c .enum-told .given .1)) in
+    line-fault (wordStep d RuleWord (fields-of (at-forms end)))
+    (rule-undeclared (h .counted) (s .pre .1) _ (s .args .n) (s .pre .3) (s .pre .2) (formed end) (ap (allFields (isKnown (d .names))) (parted end) ∙ first-fails (isKnown (d .names)) _ _ unknown))
+    (λ z. omega arith)
 
-add-body-entries : tie.Need-add-body-entries
-add-body-entries c = let within = inside (c .before .before .before .before .before .before) in search needs
+add-all-known : tie.Need-add-all-known
+add-all-known c = let within = inside (at-end (c .before)) in search needs
 
-body-entries-requires : tie.Need-body-entries-requires
-body-entries-requires c κs = let within = inside (c .before .before .before .before .before .before) in (omega arith, c .before .before .before .before .before .before .before .before .before .before .before .before .before .before .before .pre .0)
+all-known-requires : tie.Need-all-known-requires
+all-known-requires c κs = let within = inside (at-end (c .before)) in (omega arith, at-start (at-forms (at-end (c .before))) .pre .0 .few-literals)
 
 same-length : tie.Need-same-length
 same-length c = search needs
 
 returns-3 : tie.Need-returns-3
 returns-3 c =
-    let bad = when-some 7 _ (c .before .before .before .body-entries .result) (c .before .before .before .body-entries .ensures .0) (c .if2 .taken) in
-    λ names rules nh rh. record {
-      fault-is = rule-undeclared names rules (fields-of (c .before .before .before .before .before .before .before .before .before .before .before .before .before .before .before .before .before .before .before)) (formed (c .before .before .before .before .before .before .before .before .before .before .before))
-          (head-known (c .before .before .before .before .before) (held-names nh) ∙ sym (ap (λ (l : List (List ℕ)). allFields (λ f. declared l (nameOf f)) (others (c .before .before .before .before .before .before .before .before .before .before))) (held-names nh)) ∙ not-true _ bad);
-      added = λ q. absurd (omega arith);
-    }
+    let body = c .before .before .before in
+    let end = at-end (at-known body) in
+    let s = at-start (at-forms end) in
+    λ d h. line-fault (wordStep d RuleWord (fields-of (at-forms end)))
+    (rule-undeclared (h .counted) (s .pre .1) _ (s .args .n) (s .pre .3) (s .pre .2) (formed end) (known-by-body body h ∙ not-true _ (c .if2 .taken)))
+    (λ z. omega arith)
 
 same-length-2 : tie.Need-same-length-2
 same-length-2 c = search needs
 
 returns-4 : tie.Need-returns-4
 returns-4 c =
-    λ names rules nh rh. record {
-      fault-is = rule-too-many names rules (fields-of (c .before .before .before .before .before .before .before .before .before .before .before .before .before .before .before .before .before .before .before .before)) (formed (c .before .before .before .before .before .before .before .before .before .before .before .before)) (all-known (c .before) (held-names nh)) (omega (arith, c .if3 .taken, rh .counted));
-      added = λ q. absurd (omega arith);
-    }
+    let body = at-body (c .before) in
+    let end = at-end (at-known body) in
+    let s = at-start (at-forms end) in
+    λ d h. line-fault (wordStep d RuleWord (fields-of (at-forms end)))
+    (rule-too-many (h .counted) (s .pre .1) _ (s .args .n) (s .pre .3) (s .pre .2) (formed end) (known-by-body body h ∙ not-false _ (c .before .if2 .left)) (omega (arith, c .if3 .taken)))
+    (λ z. omega arith)
 
 add-end : tie.Need-add-end
 add-end c = search needs
@@ -133,15 +171,19 @@ same-length-3 c = search needs
 
 returns-5 : tie.Need-returns-5
 returns-5 c =
-    λ names rules nh rh. record {
-      fault-is = rule-too-long names rules (fields-of (c .before .before .before .before .before .before .before .before .before .before .before .before .before .before .before .before .before .before .before .before .before .before)) (formed (c .before .before .before .before .before .before .before .before .before .before .before .before .before .before)) (all-known (c .before .before .before) (held-names nh)) (omega (arith, c .if4 .taken, rh .used-is, c .before .before .before .before .before .before .before .before .before .before .before .before .before .before .before .before .before .before .before .before .before .before .pre .3));
-      added = λ q. absurd (omega arith);
-    }
+    let counts = c .before .before .before in
+    let body = at-body counts in
+    let end = at-end (at-known body) in
+    let s = at-start (at-forms end) in
+    λ d h. line-fault (wordStep d RuleWord (fields-of (at-forms end)))
+    (rule-too-long (h .counted) (s .pre .1) _ (s .args .n) (s .pre .3) (s .pre .2) (formed end) (known-by-body body h ∙ not-false _ (counts .if2 .left)) (omega (arith, c .if4 .taken)))
+    (λ z. omega arith)
 
 cast-put16 : tie.Need-cast-put16
 cast-put16 c =
-    let a = c .before .before .before .before .before .before .before .before .before .before .before .before .before .before .before .before .before .before .before .before .before .before .before .args in
-    let small = known-small (a .text .now) (a .lengths .now) (a .t .names) _ _ _ (sym (c .before .before .before .before .before .before .before .before .before .before .before .before .known-of .ensures) ∙ c .before .before .before .before .before .before .before .before .before .before .literal .given .1) in
+    let told = at-known (at-body (c .before .before .before .before)) in
+    let a = at-start (at-forms (at-end told)) .args in
+    let small = known-small (a .text .now) (a .lengths .now) (a .t .names) _ _ _ (sym (at-head told .known-of .ensures) ∙ told .before .literal .given .1) in
     search needs
 
 put16-requires : tie.Need-put16-requires
@@ -156,6 +198,9 @@ cast-put16-2 c = search needs
 put16-requires-2 : tie.Need-put16-requires-2
 put16-requires-2 c κs = search needs
 
+add-t17 : tie.Need-add-t17
+add-t17 c = search needs
+
 same-length-4 : tie.Need-same-length-4
 same-length-4 c = search needs
 
@@ -167,29 +212,29 @@ same-length-6 c = search needs
 
 returns-6 : tie.Need-returns-6
 returns-6 c =
-    let s = c .before .before .before .before .before .before .before .before .before .before .before .before .before .before .before .before .before .before .before .before .before .before .before .before .before .before .before .before .before .before in
-    let a = s .args in
-    let end = c .before .before .before .before .before .before .before .before .before .before .before .before .before .before .before .before .before .before .before .before .before in
-    let few = c .before .before .before .before .before .before .before .before .before .before .if3 .left in
-    let fits = c .before .before .before .before .before .before .before .before .if4 .left in
-    λ names rules nh rh. record {
-      fault-is = rule-fine names rules (fields-of s) (formed (c .before .before .before .before .before .before .before .before .before .before .before .before .before .before .before .before .before .before .before .before .before .before)) (all-known (c .before .before .before .before .before .before .before .before .before .before .before) (held-names nh)) (omega (arith, few, rh .counted)) (omega (arith, fits, rh .used-is, s .pre .3));
-      added = λ q. rw (parted end)
-          (rule-added rh (record { head = literalNumber names (head-field end); body = map (entryFrom names) (others end) }) (a .n) _ _ _
-          (length-map (others end) (entryFrom names) ∙ omega (arith, ap length (parted end), s .pre .3)) few fits
-          (c .before .before .before .before .before .before .put16 .ensures ∙ ap (set (a .heads .now) (a .t .rules)) (sym (literal-is (names-in s) (head-field end) _ _ (sym (c .before .before .before .before .before .before .before .before .before .before .before .before .before .before .before .before .before .before .before .known-of .ensures) ∙ c .before .before .before .before .before .before .before .before .before .before .before .before .before .before .before .before .before .literal .given .1))
-          ∙ ap (λ (l : List (List ℕ)). literalNumber l (head-field end)) (held-names nh)))
-          (c .before .before .put162 .ensures)
-          (c .before .before .before .before .before .before .before .before .before .before .before .before .before .before .body-entries .ensures .1 (c .before .before .before .before .before .before .before .before .before .before .before .if2 .left)
-          ∙ ap (λ (l : List (List ℕ)). sets (a .entries .now) (a .t .used) (map (λ f. codeOf (entryFrom l f)) (others end))) (held-names nh)
-          ∙ ap (sets (a .entries .now) (a .t .used)) (sym (map-map codeOf (entryFrom names) (others end)))));
+    let counts = at-stores c .before .before .before in
+    let body = at-body counts in
+    let told = at-known body in
+    let end = at-end told in
+    let s = at-start (at-forms end) in
+    let room : s .args .t .rules < maxRules = omega (arith, at-stores c .before .before .if3 .left) in
+    let fits : s .args .t .used + s .args .n ≤ maxEntries = omega (arith, at-stores c .if4 .left) in
+    let all-known = not-false _ (counts .if2 .left) in
+    λ d h. record {
+      answer = (
+        rule-fine (h .counted) (s .pre .1) _ (s .args .n) (s .pre .3) (s .pre .2) (formed end) (known-by-body body h ∙ all-known) room fits,
+        rule-held h (s .pre .1) (head-field end) (others end) (parted end) (s .args .n) (s .pre .3) room fits,
+      );
+      stored = λ z. rule-stored h (s .pre .1) (head-field end) (others end) (parted end) (s .args .n) (s .pre .3) room fits
+          (c .before .before .before .before .before .before .put16 .ensures ∙ ap (set (s .args .heads .now) (s .args .t .rules)) (sym (literal-is (d .names) (head-field end) _ _ (head-entry told h))))
+          (c .before .before .put162 .ensures) (body-known body h .entries-are all-known);
     }
 
 pub rule-line-spec : {M : Type 1} → statement M
 rule-line-spec =
     tie.close
     (tie.spec
-    rule-form-requires
+    well-formed-requires
     returns
     end-of-requires
     sub-known-of
@@ -199,8 +244,8 @@ rule-line-spec =
     enum-known-literal
     enum-told
     returns-2
-    add-body-entries
-    body-entries-requires
+    add-all-known
+    all-known-requires
     same-length
     returns-3
     same-length-2
@@ -213,6 +258,7 @@ rule-line-spec =
     add-put16
     cast-put16-2
     put16-requires-2
+    add-t17
     same-length-4
     same-length-5
     same-length-6

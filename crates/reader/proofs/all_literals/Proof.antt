@@ -1,19 +1,18 @@
--- `form_fault`: every field passed is a literal, so what is left decides.
+-- `all_literals`: every field passed is a literal, so what is left decides.
 use borrow.Author.Needs.{needs}
-use mathlib.Core.Path.{_≡_, sym, ap, _∙_}
-use mathlib.Core.Bool.{Bool, not}
+use mathlib.Core.Path.{_≡_, sym, _∙_}
 use Prim.Native.Nat.{_≤_, _+_, _-_}
 use lib.ListN.{length}
-use Rattle.scan.specs.Text.{rest}
+use Rattle.scan.specs.Text.{rest, comma}
 use Rattle.scan.proofs.Forms.{malformed-form, literal-form}
-use Rattle.reader.specs.File.{allFields, isLiteral, _when_else_}
+use Rattle.reader.specs.File.{allFields, isLiteral}
 use Rattle.reader.proofs.Fields.{fields-go, fields-stop, fields-end}
 use native.Mathlib.Omega.{arith}
-use Rattle.reader.proofs.form_fault.Statement.{statement}
-use Rattle.reader.proofs.form_fault.Tie as tie
+use Rattle.reader.proofs.all_literals.Statement.{statement}
+use Rattle.reader.proofs.all_literals.Tie as tie
 
 abbrev Inv-loop : tie.InvT-loop
-Inv-loop line from p₀ p = (p ≤ length line + 1) × (allFields isLiteral (rest 44 line p) ≡ allFields isLiteral (rest 44 line from))
+Inv-loop line from p₀ p = (p ≤ length line + 1) × (allFields isLiteral (rest comma line p) ≡ allFields isLiteral (rest comma line from))
 
 abbrev μ-loop : tie.MeasureT-loop
 μ-loop line from p₀ p = length line + 1 - p
@@ -47,8 +46,7 @@ returns c =
     let d = c .before .before .before .before in
     let at = d .before .before in
     let form = sym (c .before .before .form-of .ensures) ∙ c .enum-told2 .given .1 in
-    ap (λ (b : Bool). 5 when not b else 0)
-    (sym (fields-stop isLiteral (at .before .before .args .line .now) (at .loop .p) (d .end-of .result) (d .before .loop-test .taken) (d .end-of .ensures .0) (malformed-form _ form)) ∙ at .loop .inv .1)
+    sym (fields-stop isLiteral (at .before .before .args .line .now) (at .loop .p) (d .end-of .result) (d .before .loop-test .taken) (d .end-of .ensures .0) (malformed-form _ form)) ∙ at .loop .inv .1
 
 add-p : tie.Need-add-p Inv-loop μ-loop
 add-p c = let within = c .before .before .before .before .end-of .ensures .2 (c .before .before .before .before .before .loop-test .taken) in omega arith
@@ -69,10 +67,10 @@ loop-again c =
 returns-2 : tie.Need-returns-2 Inv-loop μ-loop
 returns-2 c =
     let at = c .before in
-    ap (λ (b : Bool). 5 when not b else 0) (sym (fields-end isLiteral (at .before .before .args .line .now) (at .loop .p) (c .loop-test .left)) ∙ at .loop .inv .1)
+    sym (fields-end isLiteral (at .before .before .args .line .now) (at .loop .p) (c .loop-test .left)) ∙ at .loop .inv .1
 
-pub form-fault-spec : {M : Type 1} → statement M
-form-fault-spec =
+pub all-literals-spec : {M : Type 1} → statement M
+all-literals-spec =
     tie.close
     (tie.spec
     Inv-loop

@@ -1,0 +1,45 @@
+-- The answer to a line by its case, and what it says where the line is taken by its first word: a fault leaves the rules' slices out of account, and a line
+-- that adds no rule leaves in them what they hold.
+use mathlib.Core.Path.{_≡_, refl, sym, ap, _∙_, subst}
+use mathlib.Core.List.{List, _∷_}
+use Prim.Native.Nat.{ℕ}
+use Rattle.scan.specs.Text.{wordOf}
+use Rattle.scan.specs.declared.Word.{Word}
+use Rattle.scan.specs.declared.Word.the-variants.{Name, End}
+use Rattle.reader.specs.File.{Content, lineFault, extended, withLine}
+use Rattle.reader.specs.Steps.{Holds, Step, lineStep, wordStep, Answered, LineRead}
+use Rattle.reader.specs.declared.Counts.{Counts}
+use Rattle.reader.specs.declared.LineAnswer.{LineAnswer}
+use Rattle.reader.specs.declared.LineAnswer.the-variants.{Fine, Fault}
+
+pub by-word : (d : Content) (w : Word) {first : List ℕ} {fs others : List (List ℕ)} → fs ≡ first ∷ others → wordOf first ≡ w → lineStep d fs ≡ wordStep d w others
+unfolding lineFault withLine
+by-word d w {others = others} part word = ap (lineStep d) part ∙ ap (λ (x : Word). wordStep d x others) word
+
+module _ (s : Step) {text lengths heads starts entries : List ℕ} where
+  pub line-fault : {k : ℕ} {heads′ starts′ entries′ : List ℕ} → s .fault ≡ k → (k ≡ 0 → ⊥)
+      → LineRead s (Fault k) text lengths heads starts entries heads′ starts′ entries′
+  line-fault e n = record { answer = (e, n); stored = λ z. absurd (n (sym e ∙ z)) }
+
+  rules-kept : {r : LineAnswer} → Answered s r text lengths → s .new .rules ≡ s .old .rules → LineRead s r text lengths heads starts entries heads starts entries
+  rules-kept a e = record { answer = a; stored = λ z held. rw e held }
+
+module _ (d : Content) (others : List (List ℕ)) {r : LineAnswer} {text lengths heads starts entries : List ℕ} where
+  pub name-read : Answered (wordStep d Name others) r text lengths → LineRead (wordStep d Name others) r text lengths heads starts entries heads starts entries
+  unfolding extended
+  name-read a = rules-kept (wordStep d Name others) a refl
+
+  pub end-read : Answered (wordStep d End others) r text lengths → LineRead (wordStep d End others) r text lengths heads starts entries heads starts entries
+  unfolding extended
+  end-read a = rules-kept (wordStep d End others) a refl
+
+module _ {s : Step} {r : LineAnswer} {text lengths heads starts entries heads′ starts′ entries′ : List ℕ}
+    (read : LineRead s r text lengths heads starts entries heads′ starts′ entries′) where
+  pub read-as : {q : Step} → q ≡ s → LineRead q r text lengths heads starts entries heads′ starts′ entries′
+  read-as e = subst (λ (x : Step). LineRead x r text lengths heads starts entries heads′ starts′ entries′) (sym e) read
+
+  pub was-fine : {t : Counts} → r ≡ Fine t → (s .fault ≡ 0) × Holds (s .new) t text lengths
+  was-fine e = subst (λ (x : LineAnswer). Answered s x text lengths) e (read .answer)
+
+  pub was-fault : {k : ℕ} → r ≡ Fault k → (s .fault ≡ k) × (k ≡ 0 → ⊥)
+  was-fault e = subst (λ (x : LineAnswer). Answered s x text lengths) e (read .answer)

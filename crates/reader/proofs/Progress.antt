@@ -1,0 +1,41 @@
+-- A loop over the lines of a file: what has been read is held, and the lines that are left decide. A line without a fault is added to it, and a faulty one gives
+-- the outcome, as the end of the lines does.
+use mathlib.Core.Path.{_≡_, ap, _∙_}
+use mathlib.Core.Bool.{cond}
+use mathlib.Core.List.{List}
+use Prim.Native.Nat.{ℕ, _+_, _-_, _*_, _≤_, _<_, zero-le}
+use lib.ListN.{length, take, drop, replicate}
+use borrow.Author.Tests.{ne-eqb}
+use Rattle.scan.specs.Text.{newline, split, lenTo, rest, fields, maxLength}
+use Rattle.scan.proofs.Places.{rest-here, rest-step, rest-none}
+use Rattle.book.specs.Limits.{maxNames, maxRules, maxEntries}
+use Rattle.reader.specs.File.{Content, nothingYet, lineFault, withLine, accepted, refused, readLines}
+use Rattle.reader.specs.Steps.{noCounts, Holds, Stored}
+use Rattle.reader.specs.declared.Counts.{Counts}
+use Rattle.reader.proofs.Held.{nothing-held, nothing-stored}
+
+module _ (d : Content) (number : ℕ) (b : List ℕ) (at : ℕ) where
+  module _ (e : ℕ) (h : at ≤ length b) (q : e ≡ at + lenTo newline (drop at b)) where
+    pub lines-go : lineFault d (fields (take (e - at) (drop at b))) ≡ 0
+        → readLines d number (rest newline b at) ≡ readLines (withLine d (fields (take (e - at) (drop at b)))) (number + 1) (rest newline b (e + 1))
+    unfolding readLines
+    lines-go f = ap (readLines d number) (rest-step newline b at e h q) ∙ rw f
+
+    pub lines-stop : (k : ℕ) → lineFault d (fields (take (e - at) (drop at b))) ≡ k → (k ≡ 0 → ⊥) → readLines d number (rest newline b at) ≡ refused k number
+    unfolding readLines
+    lines-stop k f n = ap (readLines d number) (rest-step newline b at e h q) ∙ rw (f, ne-eqb k 0 n)
+
+  pub lines-end : length b < at → readLines d number (rest newline b at) ≡ cond (d .ended) (accepted (d .names) (d .rules)) (refused 9 number)
+  unfolding readLines
+  lines-end h = ap (readLines d number) (rest-none newline b at h)
+
+-- what has been read up to place `at`, and that what is left decides
+pub record ReadTo (b : List ℕ) (t : Counts) (at number : ℕ) (text lengths heads starts entries : List ℕ) : Type 0 where
+  pub content : Content
+  pub held : Holds content t text lengths
+  pub stored : Stored (content .rules) heads starts entries
+  pub same : readLines content number (rest newline b at) ≡ readLines nothingYet 1 (split newline b)
+
+pub read-none : (b : List ℕ)
+    → ReadTo b noCounts 0 1 (replicate (maxLength * maxNames) 0) (replicate maxNames 0) (replicate maxRules 0) (replicate (maxRules + 1) 0) (replicate maxEntries 0)
+read-none b = record { content = nothingYet; held = nothing-held; stored = nothing-stored; same = ap (readLines nothingYet 1) (rest-here newline b 0 zero-le) }
