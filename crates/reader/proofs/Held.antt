@@ -2,7 +2,7 @@
 -- which is counted, and stored where the slices hold the rules before it; or by the `end`. At first nothing is held.
 use mathlib.Core.Path.{_≡_, refl, sym, ap, ap₂, _∙_, subst}
 use mathlib.Core.Logic.{⊎-elim}
-use mathlib.Core.Bool.{false, true}
+use mathlib.Core.Bool.{true}
 use mathlib.Core.List.{List, [], _∷_, _++_, map, map-map, List·Memᴰ·append-cases, List·Memᴰ·eq-of-singleton, List·Memᴰ·not-nil}
 use Prim.Native.Nat.{ℕ, _+_, _*_, _≤_, _<_, zero-le}
 use native.Mathlib.Omega.{arith}
@@ -53,78 +53,77 @@ module _ {d : Content} {t : Counts} {text lengths : List ℕ} (h : Holds d t tex
       ∙ ap (namesIn (textTable (d .names)) (lengthTable (d .names))) (ap (clamp maxNames) (h .counted .names-are) ∙ clamp-least maxNames (length (d .names)) few)
       ∙ names-back (d .names) (h .named .short) few
 
-  module _ (going : t .ended ≡ false) where
-    -- ---- a name
+  -- ---- a name
 
-    pub name-held : (n text′ lengths′ : List ℕ) → t .names < maxNames → length n ≤ maxLength → text′ ≡ sets text (maxLength * t .names) n
-        → lengths′ ≡ set lengths (t .names) (length n)
-        → Holds (extended d Name (n ∷ [])) (record { names = t .names + 1; rules = t .rules; used = t .used; ended = false }) text′ lengths′
-    unfolding extended
-    name-held n text′ lengths′ room short et el =
+  pub name-held : (n text′ lengths′ : List ℕ) → t .names < maxNames → length n ≤ maxLength → text′ ≡ sets text (maxLength * t .names) n
+      → lengths′ ≡ set lengths (t .names) (length n)
+      → Holds (extended d Name (n ∷ [])) (record { names = t .names + 1; rules = t .rules; used = t .used; ended = t .ended }) text′ lengths′
+  unfolding extended
+  name-held n text′ lengths′ room short et el =
+      let c = h .counted in
+      let names = d .names in
+      let size : length (names ++ (n ∷ [])) ≡ length names + 1 = length-append names (n ∷ []) in
+      let few : length names < maxNames = omega (arith, c .names-are) in
+      record {
+        counted = record {
+          names-are = omega (arith, c .names-are, size);
+          rules-are = c .rules-are;
+          used-are = c .used-are;
+          ended-is = c .ended-is;
+          fits = record { few-names = omega arith; few-rules = c .fits .few-rules; few-literals = c .fits .few-literals };
+        };
+        named = record {
+          text-is = et ∙ ap₂ (λ (x : List ℕ) (k : ℕ). sets x (maxLength * k) n) (h .named .text-is) (c .names-are) ∙ text-more names n few (h .named .short) short;
+          lengths-are = el ∙ ap₂ (λ (x : List ℕ) (k : ℕ). set x k (length n)) (h .named .lengths-are) (c .names-are) ∙ length-more names n few;
+          short = λ m i. ⊎-elim (h .named .short m) (λ j. subst (λ (x : List ℕ). length x ≤ maxLength) (sym (List·Memᴰ·eq-of-singleton j)) short) (List·Memᴰ·append-cases names i);
+        };
+      }
+
+  -- ---- a rule
+
+  module _ {fs : List (List ℕ)} (f : List ℕ) (body : List (List ℕ)) (part : fs ≡ f ∷ body) (n : ℕ) (size : n + 1 ≡ length fs) (room : t .rules < maxRules)
+      (fit : t .used + n ≤ maxEntries) where
+    rule : Rule
+    rule = record { head = literalNumber (d .names) f; body = map (entryFrom (d .names)) body }
+
+    entry-count : length (rule .body) ≡ n
+    unfolding rule
+    entry-count = omega (arith, ap length part, length-map body (entryFrom (d .names)))
+
+    pub rule-held : Holds (extended d RuleWord fs) (record { names = t .names; rules = t .rules + 1; used = t .used + n; ended = t .ended }) text lengths
+    unfolding extended rule
+    rule-held =
         let c = h .counted in
-        let names = d .names in
-        let size : length (names ++ (n ∷ [])) ≡ length names + 1 = length-append names (n ∷ []) in
-        let few : length names < maxNames = omega (arith, c .names-are) in
-        record {
+        rw part (record {
           counted = record {
-            names-are = omega (arith, c .names-are, size);
-            rules-are = c .rules-are;
-            used-are = c .used-are;
-            ended-is = sym going ∙ c .ended-is;
-            fits = record { few-names = omega arith; few-rules = c .fits .few-rules; few-literals = c .fits .few-literals };
+            names-are = c .names-are;
+            rules-are = omega (arith, c .rules-are, length-append (d .rules) (rule ∷ []));
+            used-are = omega (arith, c .used-are, bodies-more (d .rules) rule, entry-count);
+            ended-is = c .ended-is;
+            fits = record { few-names = c .fits .few-names; few-rules = omega arith; few-literals = fit };
           };
-          named = record {
-            text-is = et ∙ ap₂ (λ (x : List ℕ) (k : ℕ). sets x (maxLength * k) n) (h .named .text-is) (c .names-are) ∙ text-more names n few (h .named .short) short;
-            lengths-are = el ∙ ap₂ (λ (x : List ℕ) (k : ℕ). set x k (length n)) (h .named .lengths-are) (c .names-are) ∙ length-more names n few;
-            short = λ m i. ⊎-elim (h .named .short m) (λ j. subst (λ (x : List ℕ). length x ≤ maxLength) (sym (List·Memᴰ·eq-of-singleton j)) short) (List·Memᴰ·append-cases names i);
-          };
-        }
+          named = h .named;
+        })
 
-    -- ---- a rule
-
-    module _ {fs : List (List ℕ)} (f : List ℕ) (body : List (List ℕ)) (part : fs ≡ f ∷ body) (n : ℕ) (size : n + 1 ≡ length fs) (room : t .rules < maxRules)
-        (fit : t .used + n ≤ maxEntries) where
-      rule : Rule
-      rule = record { head = literalNumber (d .names) f; body = map (entryFrom (d .names)) body }
-
-      entry-count : length (rule .body) ≡ n
-      unfolding rule
-      entry-count = omega (arith, ap length part, length-map body (entryFrom (d .names)))
-
-      pub rule-held : Holds (extended d RuleWord fs) (record { names = t .names; rules = t .rules + 1; used = t .used + n; ended = false }) text lengths
-      unfolding extended rule
-      rule-held =
-          let c = h .counted in
-          rw part (record {
-            counted = record {
-              names-are = c .names-are;
-              rules-are = omega (arith, c .rules-are, length-append (d .rules) (rule ∷ []));
-              used-are = omega (arith, c .used-are, bodies-more (d .rules) rule, entry-count);
-              ended-is = sym going ∙ c .ended-is;
-              fits = record { few-names = c .fits .few-names; few-rules = omega arith; few-literals = fit };
-            };
-            named = h .named;
-          })
-
-      pub rule-stored : {heads starts entries heads′ starts′ entries′ : List ℕ} → heads′ ≡ set heads (t .rules) (literalNumber (d .names) f)
-          → starts′ ≡ set starts (t .rules + 1) (t .used + n) → entries′ ≡ sets entries (t .used) (map (fieldCode (d .names)) body)
-          → Stored (d .rules) heads starts entries → Stored (extended d RuleWord fs .rules) heads′ starts′ entries′
-      unfolding extended rule
-      rule-stored eh es ee s =
-          let c = h .counted in
-          let rules = d .rules in
-          let few : length rules < maxRules = omega (arith, c .rules-are) in
-          let used : t .used ≡ length (allCodes rules) = c .used-are ∙ sym (codes-length rules) in
-          let end : t .used + n ≡ length (allCodes rules) + length (rule .body) = omega (arith, used, entry-count) in
-          rw part (record {
-            heads-are = eh ∙ ap₂ (λ (x : List ℕ) (k : ℕ). set x k (rule .head)) (s .heads-are) (c .rules-are) ∙ head-more rules rule few;
-            starts-are =
-                es ∙ ap₂ (λ (x : List ℕ) (k : ℕ). set x (k + 1) (t .used + n)) (s .starts-are) (c .rules-are)
-                ∙ ap (set (startTable rules) (length rules + 1)) end ∙ start-more rules rule few;
-            entries-are =
-                ee ∙ ap (sets _ (t .used)) (sym (map-map codeOf (entryFrom (d .names)) body))
-                ∙ ap₂ (λ (x : List ℕ) (k : ℕ). sets x k (bodyCodes rule)) (s .entries-are) used ∙ entry-more rules rule (omega arith);
-          })
+    pub rule-stored : {heads starts entries heads′ starts′ entries′ : List ℕ} → heads′ ≡ set heads (t .rules) (literalNumber (d .names) f)
+        → starts′ ≡ set starts (t .rules + 1) (t .used + n) → entries′ ≡ sets entries (t .used) (map (fieldCode (d .names)) body)
+        → Stored (d .rules) heads starts entries → Stored (extended d RuleWord fs .rules) heads′ starts′ entries′
+    unfolding extended rule
+    rule-stored eh es ee s =
+        let c = h .counted in
+        let rules = d .rules in
+        let few : length rules < maxRules = omega (arith, c .rules-are) in
+        let used : t .used ≡ length (allCodes rules) = c .used-are ∙ sym (codes-length rules) in
+        let end : t .used + n ≡ length (allCodes rules) + length (rule .body) = omega (arith, used, entry-count) in
+        rw part (record {
+          heads-are = eh ∙ ap₂ (λ (x : List ℕ) (k : ℕ). set x k (rule .head)) (s .heads-are) (c .rules-are) ∙ head-more rules rule few;
+          starts-are =
+              es ∙ ap₂ (λ (x : List ℕ) (k : ℕ). set x (k + 1) (t .used + n)) (s .starts-are) (c .rules-are)
+              ∙ ap (set (startTable rules) (length rules + 1)) end ∙ start-more rules rule few;
+          entries-are =
+              ee ∙ ap (sets _ (t .used)) (sym (map-map codeOf (entryFrom (d .names)) body))
+              ∙ ap₂ (λ (x : List ℕ) (k : ℕ). sets x k (bodyCodes rule)) (s .entries-are) used ∙ entry-more rules rule (omega arith);
+        })
 
   -- ---- `end`
 

@@ -74,9 +74,7 @@ fn name_line(t: Counts, text: &mut [u8], lengths: &mut [u8], name: &[u8]) -> Lin
     store::put8(lengths, count, name.len() as u8);
     LineAnswer::Fine(Counts {
         names: count + 1,
-        rules: t.rules,
-        used: t.used,
-        ended: false,
+        ..t
     })
 }
 
@@ -191,20 +189,16 @@ fn rule_line(
         return LineAnswer::Fault(7);
     }
     let rules = t.rules;
-    if book::MAX_RULES <= rules {
-        return LineAnswer::Fault(8);
-    }
     let end = t.used + n;
-    if book::MAX_ENTRIES < end {
+    if book::MAX_RULES <= rules || book::MAX_ENTRIES < end {
         return LineAnswer::Fault(8);
     }
     store::put16(heads, rules, literal as u16);
     store::put16(starts, rules + 1, end as u16);
     LineAnswer::Fine(Counts {
-        names: t.names,
         rules: rules + 1,
         used: end,
-        ended: false,
+        ..t
     })
 }
 
@@ -247,33 +241,14 @@ fn judge(
         return LineAnswer::Fault(4);
     }
     match word {
-        Word::Name => {
-            return name_line(t, text, lengths, &line[e + 1..]);
-        }
+        Word::Name => name_line(t, text, lengths, &line[e + 1..]),
         Word::Rule => {
-            return rule_line(
-                t,
-                text,
-                lengths,
-                heads,
-                starts,
-                entries,
-                &line[e + 1..],
-                n - 2,
-            );
+            let rule = &line[e + 1..];
+            rule_line(t, text, lengths, heads, starts, entries, rule, n - 2)
         }
-        Word::End => {
-            return LineAnswer::Fine(Counts {
-                names: t.names,
-                rules: t.rules,
-                used: t.used,
-                ended: true,
-            });
-        }
+        Word::End => LineAnswer::Fine(Counts { ended: true, ..t }),
         // No count of fields is right for it.
-        Word::Unknown => {
-            return LineAnswer::Fault(4);
-        }
+        Word::Unknown => LineAnswer::Fault(4),
     }
 }
 

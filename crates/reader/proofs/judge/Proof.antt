@@ -37,7 +37,7 @@ abbrev after-name : tie.After-slice-known7 → tie.After-name-line
 after-name c = c .before .before .before .before
 
 abbrev at-rule : tie.After-rule-line-arg5 → tie.After-enum-told2
-at-rule c = c .before .before .before .before .before
+at-rule c = c .before .before .before .before .before .before
 
 abbrev after-rule : tie.After-slice-known10 → tie.After-rule-line
 after-rule c = c .before .before .before .before .before .before
@@ -155,6 +155,42 @@ part-name-line-end c = search needs
 name-line-requires : tie.Need-name-line-requires
 name-line-requires c κs = let end = at-end (at-name (c .before) .before .before .before) in (at-start (end .before) .pre, end .before .if1 .left)
 
+enum-told-2 : tie.Need-enum-told-2
+enum-told-2 c = search needs
+
+add-rule : tie.Need-add-rule
+add-rule c = let within = inside (at-end (c .before .before .before)) in search needs
+
+sub-rule : tie.Need-sub-rule
+sub-rule c = let place = rule-place c in search needs
+
+part-rule-start : tie.Need-part-rule-start
+part-rule-start c = let place = rule-place c in search needs
+
+part-rule-end : tie.Need-part-rule-end
+part-rule-end c = search needs
+
+sub-rule-line : tie.Need-sub-rule-line
+sub-rule-line c =
+    let arm = at-rule c in
+    let some = some-fields arm .0 in
+    let count = counted (arm .before .before .before .before .before .before) in
+    search needs
+
+rule-line-requires : tie.Need-rule-line-requires
+rule-line-requires c κs =
+    let arm = at-rule c in
+    let end = at-end (arm .before .before .before) in
+    let some = some-fields arm in
+    let count = counted (arm .before .before .before .before .before .before) in
+    (at-start (end .before) .pre, end .before .if1 .left, omega arith, omega (arith, ap length (rule-part arm)))
+
+enum-told-3 : tie.Need-enum-told-3
+enum-told-3 c = search needs
+
+enum-told-4 : tie.Need-enum-told-4
+enum-told-4 c = search needs
+
 same-length : tie.Need-same-length
 same-length c = search needs
 
@@ -165,36 +201,6 @@ returns-3 : tie.Need-returns-3
 returns-3 c =
     let arm = at-name (after-name c .before .before) in
     λ d h. read-as (name-read d _ (after-name c .name-line .ensures d h)) (step (arm .before .before .before .before) (arm .enum-told .given .1) d ∙ ap (wordStep d Name) (only-name arm))
-
-enum-told-2 : tie.Need-enum-told-2
-enum-told-2 c = search needs
-
-add-rule-line : tie.Need-add-rule-line
-add-rule-line c = let within = inside (at-end (at-rule c .before .before .before)) in search needs
-
-sub-rule-line : tie.Need-sub-rule-line
-sub-rule-line c = let place = rule-place (at-rule c) in search needs
-
-part-rule-line-start : tie.Need-part-rule-line-start
-part-rule-line-start c = let place = rule-place (at-rule c) in search needs
-
-part-rule-line-end : tie.Need-part-rule-line-end
-part-rule-line-end c = search needs
-
-sub-rule-line-2 : tie.Need-sub-rule-line-2
-sub-rule-line-2 c =
-    let arm = at-rule (c .before) in
-    let some = some-fields arm .0 in
-    let count = counted (arm .before .before .before .before .before .before) in
-    search needs
-
-rule-line-requires : tie.Need-rule-line-requires
-rule-line-requires c κs =
-    let arm = at-rule (c .before) in
-    let end = at-end (arm .before .before .before) in
-    let some = some-fields arm in
-    let count = counted (arm .before .before .before .before .before .before) in
-    (at-start (end .before) .pre, end .before .if1 .left, omega arith, omega (arith, ap length (rule-part arm)))
 
 same-length-3 : tie.Need-same-length-3
 same-length-3 c = search needs
@@ -213,20 +219,14 @@ same-length-7 c = search needs
 
 returns-4 : tie.Need-returns-4
 returns-4 c =
-    let arm = at-rule (after-rule c .before .before) in
+    let arm = at-rule (after-rule c .before) in
     λ d h. read-as (after-rule c .rule-line .ensures d h) (step (arm .before .before .before .before) (arm .enum-told2 .given .1) d ∙ ap (wordStep d RuleWord) (sym (rule-part arm)))
-
-enum-told-3 : tie.Need-enum-told-3
-enum-told-3 c = search needs
 
 returns-5 : tie.Need-returns-5
 returns-5 c =
     let counts = c .before .before in
     let end = at-end (counts .before) in
     λ d h. read-as (end-read d (others end) (end-fine (h .counted) (end .before .if1 .left) (others end) (right counts (c .enum-told3 .given .1)), end-held h (others end))) (step (counts .before .before) (c .enum-told3 .given .1) d)
-
-enum-told-4 : tie.Need-enum-told-4
-enum-told-4 c = search needs
 
 returns-6 : tie.Need-returns-6
 returns-6 c =
@@ -254,23 +254,23 @@ judge-spec =
     part-name-line-start
     part-name-line-end
     name-line-requires
+    enum-told-2
+    add-rule
+    sub-rule
+    part-rule-start
+    part-rule-end
+    sub-rule-line
+    rule-line-requires
+    enum-told-3
+    enum-told-4
     same-length
     same-length-2
     returns-3
-    enum-told-2
-    add-rule-line
-    sub-rule-line
-    part-rule-line-start
-    part-rule-line-end
-    sub-rule-line-2
-    rule-line-requires
     same-length-3
     same-length-4
     same-length-5
     same-length-6
     same-length-7
     returns-4
-    enum-told-3
     returns-5
-    enum-told-4
     returns-6)

@@ -112,7 +112,7 @@ returns-4 c =
     let going = at-start (at-test looked .before) .pre .1 in
     λ d h. (
       name-fine (h .counted) going _ is-named (found looked h (at-count c .before .enum-told .given .1)) room,
-      name-held h going (name-of (at-test looked .before)) _ _ room (name-fits _ is-named .1) (c .before .before .before .before .before .before .put-all .ensures) (c .before .before .put8 .ensures),
+      name-held h (name-of (at-test looked .before)) _ _ room (name-fits _ is-named .1) (c .before .before .before .before .before .before .put-all .ensures) (c .before .before .put8 .ensures),
     )
 
 pub name-line-spec : {M : Type 1} → statement M

@@ -1,12 +1,13 @@
 -- `rule_line`: each test that fails settles the fault, in the definition's order; a rule that passes them is counted, and stored behind the others.
 use borrow.Author.Needs.{needs}
 use mathlib.Core.Path.{_≡_, sym, ap, _∙_}
+use mathlib.Core.Logic.{⊎-elim}
 use mathlib.Core.Bool.{false}
 use mathlib.Core.List.{List, _∷_}
 use Prim.Native.Nat.{ℕ, _+_, _-_, _≤_, zero-le, _<_}
 use native.Mathlib.Omega.{arith}
 use lib.ListN.{length, take, drop, set}
-use borrow.Author.Tests.{not-true, not-false}
+use borrow.Author.Tests.{ltb-true, ltb-false, not-true, not-false}
 use Rattle.scan.specs.Text.{comma, rest, fields}
 use Rattle.scan.specs.declared.Word.the-variants.{Rule as RuleWord}
 use Rattle.book.specs.Limits.{maxRules, maxEntries}
@@ -91,6 +92,10 @@ known-by-body c {d} h =
     ap (allFields (isKnown (d .names))) (parted end) ∙ first-passes (isKnown (d .names)) _ _ (is-declared (d .names) (head-field end) _ _ (head-entry (at-known c) h))
     ∙ sym (body-known c h .answer-is)
 
+-- the table has room for the body
+body-fits : (c : tie.Else4) → let a = at-start (at-forms (at-end (at-known (at-body (c .before .before .before))))) .args in a .t .used + a .n ≤ maxEntries
+body-fits c = ltb-false _ _ (c .if4 .left)
+
 -- ---- the needs
 
 well-formed-requires : tie.Need-well-formed-requires
@@ -151,32 +156,24 @@ returns-3 c =
     (rule-undeclared (h .counted) (s .pre .1) _ (s .args .n) (s .pre .3) (s .pre .2) (formed end) (known-by-body body h ∙ not-true _ (c .if2 .taken)))
     (λ z. omega arith)
 
+add-end : tie.Need-add-end
+add-end c = search needs
+
 same-length-2 : tie.Need-same-length-2
 same-length-2 c = search needs
 
 returns-4 : tie.Need-returns-4
 returns-4 c =
-    let body = at-body (c .before) in
-    let end = at-end (at-known body) in
-    let s = at-start (at-forms end) in
-    λ d h. line-fault (wordStep d RuleWord (fields-of (at-forms end)))
-    (rule-too-many (h .counted) (s .pre .1) _ (s .args .n) (s .pre .3) (s .pre .2) (formed end) (known-by-body body h ∙ not-false _ (c .before .if2 .left)) (omega (arith, c .if3 .taken)))
-    (λ z. omega arith)
-
-add-end : tie.Need-add-end
-add-end c = search needs
-
-same-length-3 : tie.Need-same-length-3
-same-length-3 c = search needs
-
-returns-5 : tie.Need-returns-5
-returns-5 c =
-    let counts = c .before .before .before in
+    let counts = c .before .before in
     let body = at-body counts in
     let end = at-end (at-known body) in
     let s = at-start (at-forms end) in
-    λ d h. line-fault (wordStep d RuleWord (fields-of (at-forms end)))
-    (rule-too-long (h .counted) (s .pre .1) _ (s .args .n) (s .pre .3) (s .pre .2) (formed end) (known-by-body body h ∙ not-false _ (counts .if2 .left)) (omega (arith, c .if4 .taken)))
+    λ d h. let known = known-by-body body h ∙ not-false _ (counts .if2 .left) in
+    line-fault (wordStep d RuleWord (fields-of (at-forms end)))
+    (⊎-elim
+    (λ many. rule-too-many (h .counted) (s .pre .1) _ (s .args .n) (s .pre .3) (s .pre .2) (formed end) known (omega (arith, many .taken)))
+    (λ long. rule-too-long (h .counted) (s .pre .1) _ (s .args .n) (s .pre .3) (s .pre .2) (formed end) known (ltb-true _ _ (long .1 .taken)))
+    (c .if3 .came))
     (λ z. omega arith)
 
 cast-put16 : tie.Need-cast-put16
@@ -193,7 +190,7 @@ add-put16 : tie.Need-add-put16
 add-put16 c = search needs
 
 cast-put16-2 : tie.Need-cast-put16-2
-cast-put16-2 c = search needs
+cast-put16-2 c = let fits = body-fits (c .before .before .before .before .before) in search needs
 
 put16-requires-2 : tie.Need-put16-requires-2
 put16-requires-2 c κs = search needs
@@ -201,31 +198,31 @@ put16-requires-2 c κs = search needs
 add-t17 : tie.Need-add-t17
 add-t17 c = search needs
 
+same-length-3 : tie.Need-same-length-3
+same-length-3 c = search needs
+
 same-length-4 : tie.Need-same-length-4
 same-length-4 c = search needs
 
 same-length-5 : tie.Need-same-length-5
 same-length-5 c = search needs
 
-same-length-6 : tie.Need-same-length-6
-same-length-6 c = search needs
-
-returns-6 : tie.Need-returns-6
-returns-6 c =
+returns-5 : tie.Need-returns-5
+returns-5 c =
     let counts = at-stores c .before .before .before in
     let body = at-body counts in
     let told = at-known body in
     let end = at-end told in
     let s = at-start (at-forms end) in
-    let room : s .args .t .rules < maxRules = omega (arith, at-stores c .before .before .if3 .left) in
-    let fits : s .args .t .used + s .args .n ≤ maxEntries = omega (arith, at-stores c .if4 .left) in
+    let room : s .args .t .rules < maxRules = omega (arith, at-stores c .before .if3 .left) in
+    let fits = body-fits (at-stores c) in
     let all-known = not-false _ (counts .if2 .left) in
     λ d h. record {
       answer = (
         rule-fine (h .counted) (s .pre .1) _ (s .args .n) (s .pre .3) (s .pre .2) (formed end) (known-by-body body h ∙ all-known) room fits,
-        rule-held h (s .pre .1) (head-field end) (others end) (parted end) (s .args .n) (s .pre .3) room fits,
+        rule-held h (head-field end) (others end) (parted end) (s .args .n) (s .pre .3) room fits,
       );
-      stored = λ z. rule-stored h (s .pre .1) (head-field end) (others end) (parted end) (s .args .n) (s .pre .3) room fits
+      stored = λ z. rule-stored h (head-field end) (others end) (parted end) (s .args .n) (s .pre .3) room fits
           (c .before .before .before .before .before .before .put16 .ensures ∙ ap (set (s .args .heads .now) (s .args .t .rules)) (sym (literal-is (d .names) (head-field end) _ _ (head-entry told h))))
           (c .before .before .put162 .ensures) (body-known body h .entries-are all-known);
     }
@@ -248,18 +245,16 @@ rule-line-spec =
     all-known-requires
     same-length
     returns-3
+    add-end
     same-length-2
     returns-4
-    add-end
-    same-length-3
-    returns-5
     cast-put16
     put16-requires
     add-put16
     cast-put16-2
     put16-requires-2
     add-t17
+    same-length-3
     same-length-4
     same-length-5
-    same-length-6
-    returns-6)
+    returns-5)
