@@ -15,7 +15,7 @@ pub enum Class {
     Other,
 }
 
-pub fn class_of(b: u8) -> Class
+fn class_of(b: u8) -> Class
     ensures { λ r. ⌜ r ≡ classOf b ⌝ }
 {
     match b {
@@ -26,7 +26,7 @@ pub fn class_of(b: u8) -> Class
     }
 }
 
-pub fn is_letter(c: Class) -> bool
+fn is_letter(c: Class) -> bool
     ensures { λ r. ⌜ r ≡ isLetter c ⌝ }
 {
     match c {
@@ -37,7 +37,7 @@ pub fn is_letter(c: Class) -> bool
     }
 }
 
-pub fn in_name(c: Class) -> bool
+fn in_name(c: Class) -> bool
     ensures { λ r. ⌜ r ≡ inName c ⌝ }
 {
     match c {
