@@ -1,17 +1,14 @@
 -- The walk of a rule's body: at each place the entries from there on decide whether all pass a test.
-use mathlib.Core.Path.{_≡_, refl, _∙_, ap}
+use mathlib.Core.Path.{_≡_, refl, _∙_}
 use mathlib.Core.Bool.{Bool, true, false, _&&_}
-use mathlib.Core.List.{List, map, Memᴰ·map}
+use mathlib.Core.List.{List, map}
 use Prim.Native.Nat.{ℕ, _+_, _-_, _≤_, _<_}
 use native.Mathlib.Omega.{arith}
-use lib.ListN.{getD, take, drop, length-take, length-drop}
-use lib.Seq.{getD-take, getD-drop}
-use Rattle.wfsx.specs.Sets.{_isIn_}
+use lib.ListN.{getD, take, drop}
 use Rattle.wfsx.specs.Program.{Entry}
 use Rattle.wfsx.specs.Model.{every}
 use Rattle.wfsx.proofs.Supported.{every-none, every-first}
-use Rattle.book.specs.Book.{entryOf, bodyStart, bodyEnd, entryAt, bodyAt, bodyOf}
-use Rattle.book.proofs.Back.{getD-in}
+use Rattle.book.specs.Book.{entryOf, bodyStart, bodyEnd, entryAt, bodyOf}
 use Rattle.book.proofs.Parts.{part-step, part-end}
 
 -- the entries of rule r from place j on
@@ -19,12 +16,11 @@ abbrev entriesFrom : List ℕ → List ℕ → ℕ → ℕ → List Entry
 entriesFrom starts entries r j = map entryOf (take (getD starts (r + 1) 0 - j) (drop j entries))
 
 pub record BodyLeft (f : Entry → Bool) (starts entries : List ℕ) (r j : ℕ) : Type 0 where
-  pub from : bodyStart starts r ≤ j
   pub left : every f (bodyOf starts entries r) ≡ every f (entriesFrom starts entries r j)
 
 module _ {f : Entry → Bool} {starts entries : List ℕ} {r j : ℕ} where
   pub body-first : j ≡ bodyStart starts r → BodyLeft f starts entries r j
-  body-first e = record { from = omega arith; left = rw e refl }
+  body-first e = record { left = rw e refl }
 
   module _ (l : BodyLeft f starts entries r j) where
     -- the entry at j, and the rest
@@ -32,19 +28,10 @@ module _ {f : Entry → Bool} {starts entries : List ℕ} {r j : ℕ} where
     next h = l .left ∙ rw (part-step entries j (getD starts (r + 1) 0) (omega arith) (omega arith)) (every-first f _ _)
 
     pub body-more : j < bodyEnd starts entries r → f (entryAt entries j) ≡ true → BodyLeft f starts entries r (j + 1)
-    body-more h e = record { from = omega (arith, l .from); left = next h ∙ rw e refl }
+    body-more h e = record { left = next h ∙ rw e refl }
 
     pub body-fails : j < bodyEnd starts entries r → f (entryAt entries j) ≡ false → every f (bodyOf starts entries r) ≡ false
     body-fails h e = next h ∙ rw e refl
 
     pub body-over : bodyEnd starts entries r ≤ j → every f (bodyOf starts entries r) ≡ true
     body-over h = l .left ∙ rw (part-end entries j (getD starts (r + 1) 0) h) (every-none f)
-
-    -- the entry at j is one of the body
-    pub body-entry : j < bodyEnd starts entries r → entryAt entries j isIn bodyOf starts entries r
-    body-entry h =
-        let size = getD starts (r + 1) 0 - getD starts r 0 in
-        let place : getD starts r 0 + (j - getD starts r 0) ≡ j = omega (arith, l .from) in
-        let stored : getD (bodyAt starts entries r) (j - getD starts r 0) 0 ≡ getD entries j 0 =
-        getD-take size (drop (getD starts r 0) entries) (j - getD starts r 0) 0 (omega (arith, l .from)) ∙ getD-drop (getD starts r 0) entries (j - getD starts r 0) 0 ∙ ap (λ (n : ℕ). getD entries n 0) place in
-        rw (← stored) (Memᴰ·map entryOf (getD-in (bodyAt starts entries r) (j - getD starts r 0) 0 (simp (length-take, length-drop) (omega (arith, l .from)))))

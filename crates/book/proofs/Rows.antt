@@ -1,5 +1,5 @@
 -- Laws of `rows`: the values one by one, how many there are, and what a loop over a table needs.
-use mathlib.Core.Path.{_≡_, refl, ap, ap₂, _∙_}
+use mathlib.Core.Path.{_≡_, refl, ap, _∙_}
 use mathlib.Core.List.{[], _∷_, _++_}
 use Prim.Native.Nat.{ℕ, zero, suc, _+_, _-_, _≤_, _<_}
 use native.Mathlib.Omega.{arith}
@@ -50,8 +50,3 @@ rows-last f k (suc n) =
     let more : suc n + 1 ≡ suc (n + 1) = omega arith in
     let e : suc k + n ≡ k + suc n = omega arith in
     rw more (ap (λ l. f k ∷ l) (rows-last f (suc k) n ∙ ap (λ (j : ℕ). rows f (suc k) n ++ (f j ∷ [])) e))
-
-pub rows-same : {X : Type 0} (f g : ℕ → X) (k n : ℕ) → ((i : ℕ) → k ≤ i → i < k + n → f i ≡ g i) → rows f k n ≡ rows g k n
-unfolding rows
-rows-same f g k zero h = refl
-rows-same f g k (suc n) h = ap₂ (λ x l. x ∷ l) (h k (omega arith) (omega arith)) (rows-same f g (suc k) n (λ i low high. h i (omega arith) (omega arith)))

@@ -1,4 +1,4 @@
--- Γ and Γs by passes. From the start on, every set that the passes reach lies in Γ; where a pass adds nothing the set is full, so Γ lies in it.
+-- Γ and Γs by passes. From the start on, every set that the passes reach lies in Γ; where a pass adds nothing the set is closed, so Γ lies in it.
 -- M by rounds of the two: each set reached is an I(k), and the first that ΓΓs keeps is M.
 use mathlib.Core.Path.{_≡_, sym, _∙_, ap}
 use mathlib.Core.Logic.{_⊎_, inl, inr}
@@ -17,39 +17,36 @@ use Rattle.wfsx.proofs.Operators.{Γ-fixed, Γ-inside, I-grows, I⊆M, M-least,
 use Rattle.litset.specs.Words.{capacity}
 use Rattle.litset.proofs.Room.{free, free-falls}
 use Rattle.book.specs.Book.{program}
-use Rattle.fixpoint.specs.Pass.{Full, Passed}
+use Rattle.fixpoint.specs.Pass.{pass}
+use Rattle.fixpoint.proofs.Pass.{Full, pass-grows, pass-inside, pass-still}
 
--- ---- passes over the rules P, of which Q are left, where the heads in B are shut and S decides the `not` entries
+-- ---- passes over some rules, where the heads in B are shut and S decides the `not` entries
 
--- X has X₀ and lies in every full set that has X₀; a larger set that is full for Q is full for P
-pub record Closing (P Q : List Rule) (B S X₀ X : Set) : Type 0 where
-  pub above : X₀ ⊆ X
-  pub inside : (U : Set) → X₀ ⊆ U → Full B S P U → X ⊆ U
-  pub part : (U : Set) → X ⊆ U → Full B S P U → Full B S Q U
-  pub covers : (U : Set) → X ⊆ U → Full B S Q U → Full B S P U
+module _ (rules : List Rule) (B S : Set) where
+  -- X has X₀, and lies in every closed set that has X₀
+  pub record Growing (X₀ X : Set) : Type 0 where
+    pub above : X₀ ⊆ X
+    pub inside : (U : Set) → Full B S rules U → X₀ ⊆ U → X ⊆ U
 
-pub closing-start : (P : List Rule) (B S X₀ : Set) → Closing P P B S X₀ X₀
-closing-start P B S X₀ = record { above = λ A a. a; inside = λ U x f. x; part = λ U x f. f; covers = λ U x f. f }
+  pub growing-start : (X₀ : Set) → Growing X₀ X₀
+  growing-start X₀ = record { above = λ A a. a; inside = λ U f h. h }
 
-module _ {Q Q′ : List Rule} {B S X Y : Set} (p : Passed Q Q′ B S X Y) where
-  pub closing-falls : ((A : ℕ) → A ∈ Y → A < capacity) → (X ≡ Y → ⊥) → free Y < free X
-  closing-falls small ne = free-falls X Y (p .grows) small ne
+  module _ (X : Set) {Y : Set} (step : Y ≡ pass rules B S X) where
+    grows : X ⊆ Y
+    grows A a = rw step (pass-grows B S rules X A a)
 
-  module _ {P : List Rule} {X₀ : Set} (c : Closing P Q B S X₀ X) where
-    pub closing-more : Closing P Q′ B S X₀ Y
-    closing-more =
+    pub growing-falls : ((A : ℕ) → A ∈ Y → A < capacity) → (X ≡ Y → ⊥) → free Y < free X
+    growing-falls small ne = free-falls X Y grows small ne
+
+    pub growing-more : {X₀ : Set} → Growing X₀ X → Growing X₀ Y
+    growing-more g =
         record {
-          above = λ A a. p .grows A (c .above A a);
-          inside = λ U x f. let below = c .inside U x f in p .inside U below (c .part U below f);
-          part = λ U x f. let below = wider U x in p .part U below (c .part U below f);
-          covers = λ U x f. c .covers U (wider U x) (p .covers U x f);
+          above = λ A a. grows A (g .above A a);
+          inside = λ U f h A a. pass-inside B S rules U X f (g .inside U f h) A (rw step at a);
         }
-      where
-        wider : (U : Set) → Y ⊆ U → X ⊆ U
-        wider U x A a = x A (p .grows A a)
 
-    pub closing-still : X ≡ Y → Full B S P Y
-    closing-still e = closing-more .covers Y (λ A a. a) (p .still e)
+    pub growing-still : X ≡ Y → Full B S rules X
+    growing-still e = pass-still B S rules X (λ A a. rw (e, step) a)
 
 -- ---- the program that the passes run over: the rules that are not shut, and the start as facts
 
@@ -64,8 +61,8 @@ module _ (rules : List Rule) (B S X₀ : Set) (below : (A : ℕ) → A ∈ X₀ 
   has : (A : ℕ) → (not (B A) && supported rules (holds Goal S) A) || X₀ A ≡ true → A ∈ Goal
   has A h = rw (Γ-fixed (program (withoutHeads B rules) X₀) S) (goal-supported Goal A ∙ h)
 
-  pub closing-end : {Q : List Rule} {X : Set} → Closing rules Q B S X₀ X → Full B S rules X → X ≡ Goal
-  closing-end {X = X} g full = ⊆-antisym (g .inside Goal start whole) (Γ-inside (program (withoutHeads B rules) X₀) S X closed)
+  pub growing-end : {X : Set} → Growing rules B S X₀ X → Full B S rules X → X ≡ Goal
+  growing-end {X} g full = ⊆-antisym (g .inside Goal whole start) (Γ-inside (program (withoutHeads B rules) X₀) S X closed)
     where
       whole : Full B S rules Goal
       whole A b h = has A (or-l _ (X₀ A) (and-intro (not (B A)) _ (not-intro b) h))

@@ -1,5 +1,5 @@
 -- The laws of passes and of the model.
 pub mod Pass
-pub mod Listed
+pub mod Tables
 pub mod Growth
 pub mod Published

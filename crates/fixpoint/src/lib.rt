@@ -6,10 +6,7 @@ ghost use Rattle.wfsx.specs.Program.{withoutHeads};
 ghost use Rattle.wfsx.specs.Model.{holds, Γ, Γs};
 ghost use Rattle.litset.specs.Words.{setOf};
 ghost use Rattle.book.specs.Book.{entryIs, rulesIn, program, programOf};
-ghost use Rattle.fixpoint.specs.Pass.{keptCount, keptRules, PassedOver};
-ghost use Rattle.book.specs.Limits.{maxRules};
-ghost use Prim.Native.Nat.{ℕ, _≤_, _<_};
-ghost use lib.ListN.{length, getD};
+ghost use Rattle.fixpoint.specs.Pass.{pass};
 ghost use Rattle.fixpoint.specs.Result.{HalvesOf, ModelOf, verdictIs, verdictIn};
 use book::Book;
 use book::Entry;
@@ -49,80 +46,45 @@ fn entry_holds(e: Entry, d: LitSet, s: LitSet) -> bool
     }
 }
 
-// A rule of which the entry e doesn't hold: a literal may be added later, so the rule is kept at place k of the list; `not` fails for good.
-fn keep(rules: &mut [u16], k: usize, r: u16, e: Entry) -> usize
-    requires { ⌜ k < length (now rules) ⌝ }
-    ensures { λ x. ⌜ (x ≡ keptCount (entryIs e) k) × (now (rules .exit) ≡ keptRules (entryIs e) (now (rules .entry)) k r) ⌝ }
-{
-    match e {
-        Entry::Positive(_) => {
-            rules[k] = r;
-            return k + 1;
-        }
-        Entry::Default(_) => {
-            return k;
-        }
-    }
-}
-
-// What a pass comes to: the set, and how many of the listed rules may still add to it. They stand first in the list.
-struct Grown {
-    set: LitSet,
-    left: usize,
-}
-
-// One pass over the first n listed rules. A rule whose head is shut, or is in the set already, adds nothing and is passed over at once; any other is
-// passed over from its first body literal that doesn't hold. A later rule sees what an earlier one added.
+// One pass over the rules whose heads are not shut. A rule is passed over from its first body literal that doesn't hold; a later rule sees what an
+// earlier one added.
 fn add_heads<'a>(
     heads: &'a [u16],
     starts: &'a [u16],
     entries: &'a [u16],
-    rules: &mut [u16],
-    n: usize,
+    count: usize,
     shut: LitSet,
     s: LitSet,
     x: LitSet,
-) -> Grown
-    requires { ⌜ n ≤ length (now rules) ⌝ }
-    ensures { λ r. ⌜ PassedOver (now (heads .entry)) (now (starts .entry)) (now (entries .entry)) (now (rules .entry)) n (now (rules .exit)) (r .left)
-        (setOf (shut .words)) (setOf (s .words)) (setOf (x .words)) (setOf (r .set .words)) ⌝ }
+) -> LitSet
+    ensures { λ r. ⌜ setOf (r .words)
+        ≡ pass (rulesIn (now (heads .entry)) (now (starts .entry)) (now (entries .entry)) count)
+        (setOf (shut .words)) (setOf (s .words)) (setOf (x .words)) ⌝ }
 {
     let mut y = x;
+    // A rule whose head is shut, or is in the set already, adds nothing: it is passed over at once.
     let mut done = litset::union(x, shut);
-    let mut k: usize = 0;
-    'rules: for i in 0..n {
-        let number = rules[i];
-        let r = book::number_at(rules, i);
+    let mut r: usize = 0;
+    'rules: while r < count {
         let head = book::head_at(heads, r);
         if litset::contains(done, head) {
+            r += 1;
             continue 'rules;
         }
         let mut j = book::body_start(starts, r);
         let end = book::body_end(starts, entries, r);
         while j < end {
-            let e = book::entry_at(entries, j);
-            if !entry_holds(e, y, s) {
-                k = keep(rules, k, number, e);
+            if !entry_holds(book::entry_at(entries, j), y, s) {
+                r += 1;
                 continue 'rules;
             }
             j += 1;
         }
         y = litset::insert(y, head);
         done = litset::insert(done, head);
+        r += 1;
     }
-    Grown { set: y, left: k }
-}
-
-// The first `count` rules of the tables as a list.
-fn list_rules(rules: &mut [u16], count: usize)
-    requires { ⌜ (count ≤ length (now rules)) × (count ≤ 65536) ⌝ }
-    ensures { λ r. ⌜ (length (now (rules .exit)) ≡ length (now (rules .entry))) × ((i : ℕ) → i < count → getD (now (rules .exit)) i 0 ≡ i) ⌝ }
-{
-    let mut i: usize = 0;
-    while i < count {
-        rules[i] = i as u16;
-        i += 1;
-    }
+    y
 }
 
 // The least set that has the start and is closed under the rules that are not shut and that s keeps: passes until one adds nothing.
@@ -135,22 +97,16 @@ fn least_closed<'a>(
     shut: LitSet,
     s: LitSet,
 ) -> LitSet
-    requires { ⌜ count ≤ maxRules ⌝ }
     ensures { λ r. ⌜ setOf (r .words)
         ≡ Γ (program (withoutHeads (setOf (shut .words)) (rulesIn (now (heads .entry)) (now (starts .entry)) (now (entries .entry)) count))
         (setOf (start .words))) (setOf (s .words)) ⌝ }
 {
-    let mut rules = [0u16; book::MAX_RULES];
-    list_rules(&mut rules, count);
-    let mut n = count;
     let mut x = start;
     loop {
-        let p = add_heads(heads, starts, entries, &mut rules, n, shut, s, x);
-        let y = p.set;
+        let y = add_heads(heads, starts, entries, count, shut, s, x);
         if litset::equal(x, y) {
             return y;
         }
-        n = p.left;
         x = y;
     }
 }
@@ -165,8 +121,7 @@ fn gamma_above<'a>(
     s: LitSet,
     inside: LitSet,
 ) -> LitSet
-    requires { ⌜ (count ≤ maxRules)
-        × (setOf (inside .words) ⊆ Γ (program (rulesIn (now heads) (now starts) (now entries) count) (setOf (facts .words))) (setOf (s .words))) ⌝ }
+    requires { ⌜ setOf (inside .words) ⊆ Γ (program (rulesIn (now heads) (now starts) (now entries) count) (setOf (facts .words))) (setOf (s .words)) ⌝ }
     ensures { λ r. ⌜ setOf (r .words)
         ≡ Γ (program (rulesIn (now (heads .entry)) (now (starts .entry)) (now (entries .entry)) count)
         (setOf (facts .words))) (setOf (s .words)) ⌝ }
@@ -184,7 +139,6 @@ fn gamma_seminormal<'a>(
     facts: LitSet,
     s: LitSet,
 ) -> LitSet
-    requires { ⌜ count ≤ maxRules ⌝ }
     ensures { λ r. ⌜ setOf (r .words)
         ≡ Γs (program (rulesIn (now (heads .entry)) (now (starts .entry)) (now (entries .entry)) count)
         (setOf (facts .words))) (setOf (s .words)) ⌝ }
@@ -202,7 +156,6 @@ fn settle<'a>(
     count: usize,
     facts: LitSet,
 ) -> Halves
-    requires { ⌜ count ≤ maxRules ⌝ }
     ensures { λ r. ⌜ HalvesOf (program (rulesIn (now (heads .entry)) (now (starts .entry)) (now (entries .entry)) count)
         (setOf (facts .words))) r ⌝ }
 {

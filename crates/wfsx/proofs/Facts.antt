@@ -12,7 +12,7 @@ use Rattle.truth.proofs.Truth.{same-test, or-l, or-r}
 use Rattle.wfsx.proofs.Members.{members-are}
 use Rattle.wfsx.proofs.Supported.{heads, supported-head}
 
-pub supported-append : (P Q : Program) (f : Entry → Bool) (A : ℕ) → supported (P ++ Q) f A ≡ (supported P f A || supported Q f A)
+supported-append : (P Q : Program) (f : Entry → Bool) (A : ℕ) → supported (P ++ Q) f A ≡ (supported P f A || supported Q f A)
 unfolding supported
 supported-append [] Q f A = refl
 supported-append (r ∷ P) Q f A =

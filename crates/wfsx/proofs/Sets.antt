@@ -1,6 +1,6 @@
 -- Laws of sets, and how many entries of a list lie outside a set.
 use mathlib.Core.Path.{_≡_, refl, fun-ext}
-use mathlib.Core.Logic.{_⊎_, inl, inr}
+use mathlib.Core.Logic.{_⊎_, inl, inr, ⊎-elim}
 use mathlib.Core.Bool.{Bool, true, false, _||_}
 use mathlib.Core.List.{List, [], _∷_, List·Memᴰ·head, List·Memᴰ·tail}
 use Prim.Native.Nat.{ℕ, zero, suc, _≤_, _<_}
@@ -8,7 +8,7 @@ use native.Mathlib.Omega.{arith}
 use lib.ListN.{length}
 use lib.Dec.{eqb}
 use borrow.Author.Tests.{eqb-true, eq-eqb}
-use Rattle.truth.proofs.Truth.{clash, decided, refuted, same-test, or-l, or-r, or-none}
+use Rattle.truth.proofs.Truth.{clash, decided, refuted, same-test, or-elim, or-l, or-r, or-none}
 use Rattle.wfsx.specs.Sets.{Set, _∈_, _∉_, _⊆_, ∅, _∪_, add, _isIn_}
 
 -- ---- sets
@@ -21,6 +21,9 @@ add-has A S = or-l _ _ (eq-eqb A A refl)
 
 pub ⊆-add : (A : ℕ) (S : Set) → S ⊆ add A S
 ⊆-add A S B h = or-r (eqb B A) (S B) h
+
+pub add-same : (A : ℕ) (S : Set) → A ∈ S → add A S ≡ S
+add-same A S m = ⊆-antisym (λ B h. ⊎-elim (λ e. rw (eqb-true B A e) m) (λ b. b) (or-elim (eqb B A) (S B) h)) (⊆-add A S)
 
 -- an ancestor added to the left part of a union is added to the union
 pub add-∪ : (A : ℕ) (S U : Set) → add A S ∪ U ≡ add A (S ∪ U)

@@ -35,7 +35,7 @@ supported-first r P f A = refl
 -- ---- a test that passes more
 
 module _ (f g : Entry → Bool) (more : (e : Entry) → f e ≡ true → g e ≡ true) where
-  pub every-map : (es : List Entry) → every f es ≡ true → every g es ≡ true
+  every-map : (es : List Entry) → every f es ≡ true → every g es ≡ true
   unfolding every
   every-map [] h = h
   every-map (e ∷ es) h = and-map (f e) (every f es) (more e) (every-map es) h
@@ -90,7 +90,7 @@ unfolding every
 every-intro f [] h = refl
 every-intro f (e ∷ es) h = and-intro (f e) (every f es) (h e (List·Memᴰ·head refl)) (every-intro f es (λ x m. h x (List·Memᴰ·tail m)))
 
-pub every-elim : (f : Entry → Bool) (es : List Entry) → every f es ≡ true → (e : Entry) → e isIn es → f e ≡ true
+every-elim : (f : Entry → Bool) (es : List Entry) → every f es ≡ true → (e : Entry) → e isIn es → f e ≡ true
 unfolding every
 every-elim f (x ∷ es) h e (List·Memᴰ·head q) = ap f q ∙ and-l (f x) (every f es) h
 every-elim f (x ∷ es) h e (List·Memᴰ·tail m) = every-elim f es (and-r (f x) (every f es) h) e m

@@ -4,9 +4,6 @@ use mathlib.Core.Path.{sym, ap, _∙_}
 use mathlib.Core.Bool.{false≢true}
 use Rattle.wfsx.specs.Sets.{Set}
 use Rattle.litset.specs.Words.{setOf}
-use native.Mathlib.Omega.{arith}
-use Rattle.book.specs.Limits.{maxRules}
-use Rattle.book.proofs.Counts.{clamp-most}
 use Rattle.book.proofs.Heads.{program-of}
 use Rattle.fixpoint.proofs.gamma.Statement.{statement}
 use Rattle.fixpoint.proofs.gamma.Tie as tie
@@ -18,9 +15,7 @@ empty-requires : tie.Need-empty-requires
 empty-requires c κs = search needs
 
 gamma-above-requires : tie.Need-gamma-above-requires
-gamma-above-requires c κs =
-    let counted = c .before .before .before .before .before .before .before .before in
-    (omega (arith, counted .rule-count .ensures, clamp-most maxRules (counted .before .args .t1 .rules)), λ A h. absurd (false≢true (sym (ap (λ (S : Set). S A) (c .empty .ensures)) ∙ h)))
+gamma-above-requires c κs = λ A h. absurd (false≢true (sym (ap (λ (S : Set). S A) (c .empty .ensures)) ∙ h))
 
 returns : tie.Need-returns
 returns c =

@@ -15,7 +15,7 @@ empty-requires : tie.Need-empty-requires
 empty-requires c κs = search needs
 
 least-closed-requires : tie.Need-least-closed-requires
-least-closed-requires c κs = c .before .before .before .before .before .pre .0
+least-closed-requires c κs = search needs
 
 facts-size : (c : tie.Start) → length (c .args .facts .words) ≡ nWords
 facts-size c = search needs
@@ -27,7 +27,7 @@ returns c =
     let facts = start .args .facts .words in
     let both : length (joined .union .result .words) ≡ nWords = search needs in
     c .least-closed .ensures
-    ∙ from-inside _ (setOf facts) (member-room facts (facts-size start)) _ (c .before .empty .ensures) (joined .union .ensures) (member-room (joined .union .result .words) both) (start .pre .1)
+    ∙ from-inside _ (setOf facts) (member-room facts (facts-size start)) _ (c .before .empty .ensures) (joined .union .ensures) (member-room (joined .union .result .words) both) (start .pre)
 
 pub gamma-above-spec : {M : Type 1} → statement M
 gamma-above-spec = tie.close (tie.spec union-requires empty-requires least-closed-requires returns)

@@ -1,9 +1,6 @@
 -- `gamma_s`: the book's tables hold its rules.
 use borrow.Author.Needs.{needs}
 use Rattle.litset.specs.Words.{setOf}
-use native.Mathlib.Omega.{arith}
-use Rattle.book.specs.Limits.{maxRules}
-use Rattle.book.proofs.Counts.{clamp-most}
 use Rattle.book.proofs.Heads.{program-of}
 use Rattle.fixpoint.proofs.gamma_s.Statement.{statement}
 use Rattle.fixpoint.proofs.gamma_s.Tie as tie
@@ -12,9 +9,7 @@ rule-count-requires : tie.Need-rule-count-requires
 rule-count-requires c κs = search needs
 
 gamma-seminormal-requires : tie.Need-gamma-seminormal-requires
-gamma-seminormal-requires c κs =
-    let counted = c .before .before .before .before .before .before .before in
-    omega (arith, counted .rule-count .ensures, clamp-most maxRules (counted .before .args .t1 .rules))
+gamma-seminormal-requires c κs = search needs
 
 returns : tie.Need-returns
 returns c =

@@ -15,7 +15,7 @@ difference-requires : tie.Need-difference-requires
 difference-requires c κs = search needs
 
 least-closed-requires : tie.Need-least-closed-requires
-least-closed-requires c κs = c .before .before .before .before .before .pre
+least-closed-requires c κs = search needs
 
 facts-size : (c : tie.Start) → length (c .args .facts .words) ≡ nWords
 facts-size c = search needs

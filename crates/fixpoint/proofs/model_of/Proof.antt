@@ -2,9 +2,6 @@
 use borrow.Author.Needs.{needs}
 use Rattle.litset.specs.Words.{setOf}
 use Rattle.book.specs.Book.{programOf}
-use native.Mathlib.Omega.{arith}
-use Rattle.book.specs.Limits.{maxRules}
-use Rattle.book.proofs.Counts.{clamp-most}
 use Rattle.book.proofs.Heads.{program-of}
 use Rattle.fixpoint.specs.Result.{HalvesOf}
 use Rattle.fixpoint.proofs.model_of.Statement.{statement}
@@ -14,9 +11,7 @@ rule-count-requires : tie.Need-rule-count-requires
 rule-count-requires c κs = search needs
 
 settle-requires : tie.Need-settle-requires
-settle-requires c κs =
-    let counted = c .before .before .before .before .before .before .before in
-    omega (arith, counted .rule-count .ensures, clamp-most maxRules (counted .before .args .t1 .rules))
+settle-requires c κs = search needs
 
 lowest-both-requires : tie.Need-lowest-both-requires
 lowest-both-requires c κs = search needs

@@ -28,7 +28,7 @@ gamma-seminormal-requires : tie.Need-gamma-seminormal-requires Inv-loop μ-loop
 gamma-seminormal-requires c κs = search needs
 
 gamma-above-requires : tie.Need-gamma-above-requires Inv-loop μ-loop
-gamma-above-requires c κs = (search needs, round-inside _ (c .before .loop .inv) (c .gamma-seminormal .ensures))
+gamma-above-requires c κs = round-inside _ (c .before .loop .inv) (c .gamma-seminormal .ensures)
 
 equal-requires : tie.Need-equal-requires Inv-loop μ-loop
 equal-requires c κs = search needs
