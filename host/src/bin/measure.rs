@@ -277,7 +277,7 @@ fn print_stack() {
         println!(
             "| {names} and {names} names, {h} heads | {depth} | {} | {} |",
             least_stack(names),
-            (h + 1) * (h + 1) * 416 + h * 288
+            (h + 1) * (h + 1) * 384 + h * 288
         );
     }
 }
