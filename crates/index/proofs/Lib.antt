@@ -1,3 +1,4 @@
 -- The laws of the index.
 pub mod Placed
 pub mod Indexed
+pub mod Walks

@@ -1,6 +1,6 @@
 -- A fact is supported whatever the test, so the facts put in join what the rules support.
 use mathlib.Core.Path.{_≡_, refl, sym, _∙_, ap}
-use mathlib.Core.Bool.{Bool, true, _&&_, _||_, or-assoc}
+use mathlib.Core.Bool.{Bool, true, _&&_, _||_}
 use mathlib.Core.List.{List, [], _∷_, _++_, List·Memᴰ·head, List·Memᴰ·tail, map}
 use Prim.Native.Nat.{ℕ, _<_}
 use lib.Dec.{eqb}
@@ -10,14 +10,7 @@ use Rattle.wfsx.specs.Program.{Entry, Rule, Program, fact, withFacts}
 use Rattle.wfsx.specs.Model.{every, supported}
 use Rattle.truth.proofs.Truth.{same-test, or-l, or-r}
 use Rattle.wfsx.proofs.Members.{members-are}
-use Rattle.wfsx.proofs.Supported.{heads, supported-head}
-
-supported-append : (P Q : Program) (f : Entry → Bool) (A : ℕ) → supported (P ++ Q) f A ≡ (supported P f A || supported Q f A)
-unfolding supported
-supported-append [] Q f A = refl
-supported-append (r ∷ P) Q f A =
-    ap (λ (b : Bool). eqb (r .head) A && every f (r .body) || b) (supported-append P Q f A)
-    ∙ sym (or-assoc (eqb (r .head) A && every f (r .body)) (supported P f A) (supported Q f A))
+use Rattle.wfsx.proofs.Supported.{heads, supported-head, supported-append}
 
 fact-supported : (l : List ℕ) (f : Entry → Bool) (A : ℕ) → A isIn l → A ∈ supported (map fact l) f
 unfolding supported every

@@ -9,4 +9,5 @@ pub mod Operators
 pub mod Parts
 pub mod Contradiction
 pub mod Trees
+pub mod Ancestors
 pub mod Agreement

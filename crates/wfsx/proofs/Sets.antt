@@ -8,7 +8,7 @@ use native.Mathlib.Omega.{arith}
 use lib.ListN.{length}
 use lib.Dec.{eqb}
 use borrow.Author.Tests.{eqb-true, eq-eqb}
-use Rattle.truth.proofs.Truth.{clash, decided, refuted, same-test, or-elim, or-l, or-r, or-none}
+use Rattle.truth.proofs.Truth.{clash, decided, refuted, same-test, or-elim, or-l, or-r, or-none, or-map}
 use Rattle.wfsx.specs.Sets.{Set, _∈_, _∉_, _⊆_, ∅, _∪_, add, _isIn_}
 
 -- ---- sets
@@ -24,6 +24,21 @@ pub ⊆-add : (A : ℕ) (S : Set) → S ⊆ add A S
 
 pub add-same : (A : ℕ) (S : Set) → A ∈ S → add A S ≡ S
 add-same A S m = ⊆-antisym (λ B h. ⊎-elim (λ e. rw (eqb-true B A e) m) (λ b. b) (or-elim (eqb B A) (S B) h)) (⊆-add A S)
+
+pub add-more : (A : ℕ) {S U : Set} → S ⊆ U → add A S ⊆ add A U
+add-more A {S} f B h = or-map (eqb B A) (S B) (λ e. e) (f B) h
+
+pub add-swap : (A B : ℕ) (S : Set) → add A (add B S) ≡ add B (add A S)
+add-swap A B S = fun-ext (λ C. go (eqb C A) (eqb C B) (S C))
+  where
+    go : (a b c : Bool) → (a || (b || c)) ≡ (b || (a || c))
+    go true true c = refl
+    go true false c = refl
+    go false b c = refl
+
+-- what holds of a literal and of the members of a set holds of the members of the set with it
+pub with-one : (Q : ℕ → Type 0) (A : ℕ) (S : Set) → Q A → ((B : ℕ) → B ∈ S → Q B) → (B : ℕ) → B ∈ add A S → Q B
+with-one Q A S q f B m = ⊎-elim (λ e. rw (eqb-true B A e) q) (f B) (or-elim (eqb B A) (S B) m)
 
 -- an ancestor added to the left part of a union is added to the union
 pub add-∪ : (A : ℕ) (S U : Set) → add A S ∪ U ≡ add A (S ∪ U)

@@ -2,8 +2,8 @@
 -- notion of a closed set takes the rules apart.
 use mathlib.Core.Path.{_≡_, refl, sym, _∙_, ap}
 use mathlib.Core.Logic.{_⊎_, inl, inr}
-use mathlib.Core.Bool.{Bool, true, false, _&&_, _||_, and-or-distrib-left, and-false}
-use mathlib.Core.List.{List, [], _∷_, List·Memᴰ·head, List·Memᴰ·tail, map}
+use mathlib.Core.Bool.{Bool, true, false, _&&_, _||_, and-or-distrib-left, and-false, or-assoc}
+use mathlib.Core.List.{List, [], _∷_, _++_, List·Memᴰ·head, List·Memᴰ·tail, map}
 use Prim.Native.Nat.{ℕ, _≤_}
 use native.Mathlib.Nat.{le-of-eq}
 use lib.ListN.{length, length-map}
@@ -31,6 +31,13 @@ supported-none f A = refl
 pub supported-first : (r : Rule) (P : Program) (f : Entry → Bool) (A : ℕ) → supported (r ∷ P) f A ≡ (eqb (r .head) A && every f (r .body) || supported P f A)
 unfolding supported
 supported-first r P f A = refl
+
+pub supported-append : (P Q : Program) (f : Entry → Bool) (A : ℕ) → supported (P ++ Q) f A ≡ (supported P f A || supported Q f A)
+unfolding supported
+supported-append [] Q f A = refl
+supported-append (r ∷ P) Q f A =
+    ap (λ (b : Bool). eqb (r .head) A && every f (r .body) || b) (supported-append P Q f A)
+    ∙ sym (or-assoc (eqb (r .head) A && every f (r .body)) (supported P f A) (supported Q f A))
 
 -- ---- a test that passes more
 

@@ -181,3 +181,21 @@ module _ (P : Program) where
       same : (e : Entry) → child (tree P) T (add A ∅) X e ≡ child (tree P) T ∅ (add A X) e
       same (positive B) = ap (λ (S : Set). S B) (one-set (add A ∅) X) ∙ ap (λ (S : Set). tree P T ∅ S B) (add-∪ A ∅ X)
       same (default C) = ap (λ (S : Set). not (tree P TU ∅ S C) || tree P T ∅ S (compl C)) (add-∪ A ∅ X)
+
+-- ---- the trees are settled by what the rules support
+
+-- programs that support the same have the same trees
+pub tree-same : (P Q : Program) → ((f : Entry → Bool) (A : ℕ) → supported Q f A ≡ supported P f A) → (k : Tree) (L G : Set) → tree Q k L G ≡ tree P k L G
+tree-same P Q same = tree-unique P (tree Q) (λ k L G. tree-unfolds Q k L G ∙ fun-ext (here k L G))
+  where
+    expanded : (k : Tree) (f : Entry → Bool) (A : ℕ) → supported (expansions k Q) f A ≡ supported (expansions k P) f A
+    expanded T f A = same f A
+    expanded TU f A =
+        supported-seminormal Q f A ∙ ap (λ (b : Bool). f (default (compl A)) && b) (same f A) ∙ sym (supported-seminormal P f A)
+
+    here : (k : Tree) (L G : Set) (A : ℕ) → node Q (tree Q) k L G A ≡ node P (tree Q) k L G A
+    here k L G A = ap (λ (b : Bool). not (pruned k L G A) && b) (expanded k (child (tree Q) k (add A L) G) A)
+
+pub answer-same : (P Q : Program) → ((f : Entry → Bool) (A : ℕ) → supported Q f A ≡ supported P f A) → (k : Tree) (q : Entry) → answer Q k q ≡ answer P k q
+unfolding answer
+answer-same P Q same k q = ap (λ (s : Search). child s k ∅ ∅ q) (fun-ext (λ j. fun-ext (λ L. fun-ext (λ G. tree-same P Q same j L G))))

@@ -39,6 +39,10 @@ unfoldable pub supported : Program → (Entry → Bool) → Set
 supported [] f A = false
 supported (r ∷ P) f A = eqb (r .head) A && every f (r .body) || supported P f A
 
+-- The literals that are heads of P.
+abbrev pub headed : Program → Set
+headed P = supported P (λ e. true)
+
 -- Γ(S), the least set closed under the rules that S keeps: it is reached after as many rounds as there are rules, since each round but the
 -- last adds a head.
 unfoldable pub Γ : Program → Set → Set
