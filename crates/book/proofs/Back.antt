@@ -14,7 +14,7 @@ use Rattle.wfsx.specs.Program.{Entry, positive, default, Rule}
 use Rattle.litset.specs.Words.{capacity}
 use Rattle.scan.specs.Text.{maxLength}
 use Rattle.book.specs.Limits.{maxNames, maxRules}
-use Rattle.book.specs.Book.{rows, clamp, nameAt, namesIn, namesOf, literalOf, entryOf, bodyAt, ruleAt, rulesIn, rulesOf, padded, joined, codeOf, bodyCodes, startsFrom, textTable, lengthTable, headTable, startTable, entryTable, bookOf}
+use Rattle.book.specs.Book.{rows, clamp, nameAt, namesIn, namesOf, literalOf, entryOf, bodyAt, ruleAt, rulesIn, rulesOf, padded, joined, codeOf, bodyCodes, startsFrom, textTable, lengthTable, headTable, startTable, entryTable, bookOf, literalIn}
 use Rattle.book.proofs.Counts.{clamp-least}
 use Rattle.book.proofs.Tables.{allCodes, padded-length, starts-length}
 
@@ -90,11 +90,6 @@ body-block n (r ∷ rules) z d (suc k) h =
     ap (take (getD (startsFrom (n + length (r .body)) rules) (suc k) 0 - m))
     (ap₂ drop place (append-assoc (bodyCodes r) (allCodes rules) z) ∙ drop-append-add (bodyCodes r) (allCodes rules ++ z) (m - (n + length (r .body))))
     ∙ body-block (n + length (r .body)) rules z d k (omega arith)
-
--- the literal of an entry
-abbrev pub literalIn : Entry → ℕ
-literalIn (positive B) = B
-literalIn (default C) = C
 
 entry-back : (e : Entry) → literalIn e < capacity → entryOf (codeOf e) ≡ e
 entry-back (positive B) h =

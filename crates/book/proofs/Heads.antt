@@ -16,10 +16,9 @@ use Rattle.wfsx.specs.Model.{supported, Heads⊆}
 use Rattle.wfsx.proofs.Members.{members-are}
 use Rattle.wfsx.proofs.Supported.{supported-none, supported-first}
 use Rattle.litset.specs.Words.{capacity, room}
-use Rattle.book.specs.Book.{rows, literalOf, headAt, entryAt, ruleAt, rulesIn, rulesOf, program, programOf}
+use Rattle.book.specs.Book.{rows, literalOf, literalIn, headAt, entryAt, ruleAt, rulesIn, rulesOf, program, programOf}
 use Rattle.book.specs.declared.Book.{Book}
 use Rattle.book.proofs.Rows.{rows-none, rows-first}
-use Rattle.book.proofs.Back.{literalIn}
 
 -- ---- literals that a set of literals has room for
 

@@ -65,6 +65,11 @@ literalOf n = n % capacity
 abbrev pub entryOf : ℕ → Entry
 entryOf e = cond (eqb (e % 2) 0) (positive (literalOf (e / 2))) (default (literalOf (e / 2)))
 
+-- the literal that an entry asks for, with or without `not`
+abbrev pub literalIn : Entry → ℕ
+literalIn (positive B) = B
+literalIn (default C) = C
+
 -- what an `Entry` of the code says
 abbrev pub entryIs : declared.Entry → Entry
 entryIs (Positive B) = positive B

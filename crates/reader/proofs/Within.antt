@@ -17,9 +17,8 @@ use Rattle.scan.specs.declared.Word.{Word}
 use Rattle.scan.specs.declared.Word.the-variants.{Name, Rule as RuleWord, End, Unknown}
 use Rattle.scan.proofs.Forms.{lead-most}
 use Rattle.book.specs.Limits.{maxNames, maxRules, maxEntries, maxBody}
-use Rattle.book.specs.Book.{find}
+use Rattle.book.specs.Book.{find, literalIn}
 use Rattle.book.proofs.Lookup.{found-below}
-use Rattle.book.proofs.Back.{literalIn}
 use Rattle.book.specs.declared.Found.{Found}
 use Rattle.book.specs.declared.Found.the-variants.{Nothing, At}
 use Rattle.reader.proofs.FieldCounts.{name-fields, rule-fields}

@@ -1,63 +1,76 @@
--- The falling number of the walk: the literals outside the T-ancestors, weighted, and in a TU-tree the literals outside the local path. A T-node
--- that goes on has a new T-ancestor, and a TU-node that goes on a longer path. Between two nodes stand the loop over rules, the loop over
--- entries and the child, in this order: so each number is taken four times, with 3, 2 and 1 added.
-use mathlib.Core.Path.{_≡_}
-use mathlib.Core.Bool.{false}
+-- The falling number of the walk: the literals outside the T-ancestors, weighted, and in a TU-tree the literals outside the local path. A T-node that goes on has a new
+-- T-ancestor, and a TU-node that goes on a longer path. Between two nodes stand the loop over rules, the loop over entries, the child and the search of a TU-tree: so each
+-- number is taken six times, with up to 4 added.
+use mathlib.Core.Path.{_≡_, refl, sym, _∙_}
+use mathlib.Core.Bool.{not}
+use mathlib.Core.List.{List}
 use Prim.Native.Nat.{ℕ, _+_, _*_, _<_}
-use native.Mathlib.Nat.{mul-le-mul-right, suc-mul}
 use native.Mathlib.Omega.{arith}
-use lib.ListN.{length}
-use Rattle.wfsx.specs.Sets.{Set, ∅}
+use lib.Dec.{eqb}
+use lib.ListN.{length, getD, set}
+use Rattle.wfsx.specs.Program.{Program}
 use Rattle.wfsx.specs.Trees.{Tree, T, TU}
-use Rattle.litset.specs.Words.{capacity, with}
-use Rattle.litset.proofs.Room.{literals, free, free-most, free-with}
+use Rattle.litset.specs.Words.{capacity}
+use Rattle.search.specs.Marks.{others}
+use Rattle.search.specs.Walk.{State, state, Tables, Walked}
+use Rattle.search.proofs.Marks.{others-same, count-set-less, count-most}
 
-abbrev weight : Set → ℕ
-weight S = free S * (length literals + 2)
+unfoldable pub t-size : List ℕ → ℕ
+t-size t = 6 * (others 3 t * (capacity + 2))
 
-unfoldable pub t-size : Set → ℕ
-t-size X = 4 * weight X
+unfoldable pub tu-size : List ℕ → List ℕ → ℕ
+tu-size t u = 6 * (others 3 t * (capacity + 2) + (others 4 u + 1))
 
-unfoldable pub tu-size : Set → Set → ℕ
-tu-size Y X = 4 * (weight X + (free Y + 1))
+unfoldable pub search-size : List ℕ → ℕ
+search-size t = 6 * (others 3 t * (capacity + 2) + (capacity + 1)) + 1
 
-unfoldable pub child-size : Tree → Set → Set → ℕ
-child-size T Y X = tu-size ∅ X + 1
-child-size TU Y X = tu-size Y X + 1
+unfoldable pub child-size : Tree → List ℕ → List ℕ → ℕ
+child-size T t u = search-size t + 1
+child-size TU t u = tu-size t u + 1
 
-module _ (a : ℕ) (small : a < capacity) (S W : Set) (w : W ≡ with a S) (new : false ≡ S a) where
-  fewer : free W < free S
-  fewer = free-with a small S W w new
+-- from a T-node to its rules
+pub t-falls : {P : Program} {t u : List ℕ} → Tables P t u → (a : ℕ) → a < capacity → getD t a 0 ≡ 0 → (u′ : List ℕ) (n : ℕ) → t-size t ≡ n → child-size T (set t a 3) u′ + 2 < n
+unfolding t-size search-size child-size
+t-falls {t = t} h a small z u′ n e = omega (arith, count-set-less (λ x. not (eqb x 3)) t a 3 (omega (arith, h .t-room)) (rw z refl) refl)
 
-  -- from a T-node to its rules
-  pub t-falls : (t : ℕ) → t-size S ≡ t → (Y : Set) → child-size T Y W + 2 < t
-  unfolding t-size tu-size child-size
-  t-falls t e Y = omega (arith, fewer, free-most ∅, mul-le-mul-right (length literals + 2) fewer, suc-mul (free W) (length literals + 2))
+-- from a TU-node to its rules
+pub tu-falls : {P : Program} {t u : List ℕ} → Tables P t u → (a : ℕ) → a < capacity → getD u a 0 ≡ 0 → (n : ℕ) → tu-size t u ≡ n → child-size TU t (set u a 4) + 2 < n
+unfolding tu-size child-size
+tu-falls {u = u} h a small z n e = omega (arith, count-set-less (λ x. not (eqb x 4)) u a 4 (omega (arith, h .u-room)) (rw z refl) refl)
 
-  -- from a TU-node to its rules
-  pub tu-falls : (t : ℕ) (X : Set) → tu-size S X ≡ t → child-size TU W X + 2 < t
-  unfolding tu-size child-size
-  tu-falls t X e = omega (arith, fewer)
+-- the marks of ancestors are the same after a visit, so the number is
+module _ {P : Program} {k : Tree} {s s′ : State} (h : Tables P (s .t) (s .u)) (w : Walked P k s s′) where
+  above-same : others 3 (s′ .t) ≡ others 3 (s .t)
+  above-same = others-same 3 (s′ .t) (s .t) (w .tables .t-room ∙ sym (h .t-room)) (w .above-kept)
 
--- from a TU-node to the T-node of the complement
-pub complement-falls : (t : ℕ) (Y X : Set) → tu-size Y X ≡ t → t-size X < t
-unfolding t-size tu-size
-complement-falls t Y X e = omega arith
+  path-same : others 4 (s′ .u) ≡ others 4 (s .u)
+  path-same = others-same 4 (s′ .u) (s .u) (w .tables .u-room ∙ sym (h .u-room)) (w .path-kept)
+
+  pub child-size-same : (j : Tree) → child-size j (s′ .t) (s′ .u) ≡ child-size j (s .t) (s .u)
+  unfolding tu-size search-size child-size
+  child-size-same T = rw above-same refl
+  child-size-same TU = rw (above-same, path-same) refl
+
+  -- from the search of a TU-tree to its nodes
+  pub search-tu-falls : (n : ℕ) → search-size (s .t) ≡ n → tu-size (s′ .t) (s′ .u) < n
+  unfolding tu-size search-size
+  search-tu-falls n e = omega (arith, above-same, count-most (λ x. not (eqb x 4)) (s′ .u), w .tables .u-room)
+
+  -- and to the T-tree that it waits for
+  pub search-t-falls : (n : ℕ) → search-size (s .t) ≡ n → t-size (s′ .t) < n
+  unfolding t-size search-size
+  search-t-falls n e = omega (arith, above-same)
 
 -- from a child to its node
-module _ (t : ℕ) (k : Tree) (Y X : Set) (e : child-size k Y X ≡ t) where
-  pub T-t-falls : k ≡ T → t-size X < t
-  unfolding t-size tu-size child-size
+module _ (n : ℕ) (k : Tree) (t u : List ℕ) (e : child-size k t u ≡ n) where
+  pub T-t-falls : k ≡ T → t-size t < n
+  unfolding t-size search-size child-size
   T-t-falls q = let f = rw q at e in omega arith
 
-  pub T-tu-falls : k ≡ T → (Z : Set) → Z ≡ ∅ → tu-size Z X < t
+  pub T-search-falls : k ≡ T → search-size t < n
   unfolding child-size
-  T-tu-falls q Z z = let f = rw q at e in rw z (omega arith)
+  T-search-falls q = let f = rw q at e in omega arith
 
-  pub TU-t-falls : k ≡ TU → t-size X < t
-  unfolding t-size tu-size child-size
-  TU-t-falls q = let f = rw q at e in omega arith
-
-  pub TU-tu-falls : k ≡ TU → tu-size Y X < t
+  pub TU-tu-falls : k ≡ TU → tu-size t u < n
   unfolding child-size
   TU-tu-falls q = let f = rw q at e in omega arith

@@ -1,46 +1,46 @@
--- The loop over the rules of the walk, over plain values: at each turn what is left to ask, from here on, is the answer of the whole.
+-- The two loops of the walk. Over the entries of a body: as long as all children hold, the entries that are left decide whether all do; one that fails fails the body,
+-- whatever the others are. Over the rules of a literal: as long as all bodies fail, the rules that are left decide; one whose children hold is enough.
 use mathlib.Core.Path.{_≡_, refl, sym, _∙_, ap}
-use mathlib.Core.Bool.{Bool, true, false, _&&_, _||_, and-false}
+use mathlib.Core.Bool.{Bool, true, false}
 use mathlib.Core.List.{List}
-use Prim.Native.Nat.{ℕ, _+_, _-_, _≤_, _<_}
-use native.Mathlib.Omega.{arith}
-use lib.Dec.{eqb}
-use borrow.Author.Tests.{eq-eqb, ne-eqb}
-use Rattle.wfsx.specs.Program.{Entry, Rule}
-use Rattle.wfsx.specs.Model.{every, supported}
-use Rattle.book.specs.Book.{rows}
+use Prim.Native.Nat.{ℕ, _+_, _<_}
+use lib.ListN.{getD}
+use Rattle.truth.proofs.Truth.{clash}
+use Rattle.wfsx.specs.Program.{Program}
+use Rattle.wfsx.specs.Model.{every}
+use Rattle.wfsx.specs.Trees.{Tree}
 use Rattle.litset.specs.Words.{capacity}
-use Rattle.book.proofs.Back.{literalIn}
-use Rattle.book.proofs.Rows.{rows-step, rows-end}
-use Rattle.search.specs.Questions.{questionOf}
-use Rattle.wfsx.proofs.Supported.{supported-none, supported-first}
+use Rattle.book.specs.declared.Entry.{Entry}
+use Rattle.book.specs.Book.{entryIs, literalIn, bodyEnd, entryAt, bodyOf}
+use Rattle.book.proofs.Bodies.{BodyLeft, body-more, body-one}
+use Rattle.book.proofs.Heads.{entry-below}
+use Rattle.index.specs.Index.{rulesEnd, supportedBy}
+use Rattle.index.proofs.Walks.{RulesLeft, rules-more, rules-one}
+use Rattle.search.specs.declared.Finding.{Finding}
+use Rattle.search.specs.Marks.{isHolds, isFails}
+use Rattle.search.specs.Walk.{State, Visited, sureAt, mayAt}
+use Rattle.search.proofs.Visits.{Going, sure-at, may-at, sure-all, may-all, after-holds, after-fails, ends-with}
 
--- Of n rules those from r on decide whether `a` is supported.
-pub record RulesLeft (rule : ℕ → Rule) (f : Entry → Bool) (a n r : ℕ) : Type 0 where
-  pub left : supported (rows rule 0 n) f a ≡ supported (rows rule r (n - r)) f a
+pub entry-small : (entries : List ℕ) (j : ℕ) (e : Entry) → entryIs e ≡ entryAt entries j → literalIn (entryIs e) < capacity
+entry-small entries j e q = rw q (entry-below entries j)
 
-module _ {rule : ℕ → Rule} {f : Entry → Bool} {a n : ℕ} where
-  pub rules-first : RulesLeft rule f a n 0
-  rules-first = let all : n - 0 ≡ n = omega arith in record { left = rw all refl }
+module _ {P : Program} {k : Tree} {s₀ s s′ : State} (g : Going P k s₀ s) where
+  module _ {starts entries : List ℕ} {i j : ℕ} (l : BodyLeft (sureAt P k s₀) starts entries i j) (inside : j < bodyEnd starts entries i) (e : Entry) (q : entryIs e ≡ entryAt entries j)
+      (f : Finding) (v : Visited P k s s′ (sureAt P k s (entryIs e)) (mayAt P k s (entryIs e)) f) where
+    pub body-goes-on : isHolds f ≡ true → Going P k s₀ s′ × BodyLeft (sureAt P k s₀) starts entries i (j + 1)
+    body-goes-on h = let next = after-holds f g v h in (next .0, body-more l inside (ap (sureAt P k s₀) (sym q) ∙ sure-at g (entryIs e) (next .1)))
 
-  -- what rule r gives, and the rest
-  next-rule : {r : ℕ} → r < n → RulesLeft rule f a n r
-      → supported (rows rule 0 n) f a ≡ (eqb (rule r .head) a && every f (rule r .body) || supported (rows rule (r + 1) (n - (r + 1))) f a)
-  next-rule {r} h l = l .left ∙ ap (λ (P : List Rule). supported P f a) (rows-step rule r n h) ∙ supported-first (rule r) _ f a
+    pub body-ends : isHolds f ≡ false → Visited P k s₀ s′ (every (sureAt P k s₀) (bodyOf starts entries i)) (every (mayAt P k s₀) (bodyOf starts entries i)) f
+    body-ends n = ends-with f g v (λ h. absurd (clash h n)) (λ _ m. body-one l (mayAt P k s₀) inside (ap (mayAt P k s₀) (sym q) ∙ may-at g (entryIs e) m))
 
-  pub rules-other : {r : ℕ} → r < n → (rule r .head ≡ a → ⊥) → RulesLeft rule f a n r → RulesLeft rule f a n (r + 1)
-  rules-other {r} h ne l = record { left = next-rule h l ∙ rw (ne-eqb (rule r .head) a ne) refl }
+  module _ {firsts rules starts entries : List ℕ} {a p : ℕ} (l : RulesLeft (mayAt P k s₀) firsts rules starts entries a p) (inside : p < rulesEnd firsts rules a) (i : ℕ) (q : i ≡ getD rules p 0)
+      (f : Finding) (v : Visited P k s s′ (every (sureAt P k s) (bodyOf starts entries i)) (every (mayAt P k s) (bodyOf starts entries i)) f) where
+    pub rules-go-on : isFails f ≡ true → Going P k s₀ s′ × RulesLeft (mayAt P k s₀) firsts rules starts entries a (p + 1)
+    rules-go-on h =
+        let next = after-fails f g v h in
+        (next .0, rules-more l inside (ap (λ (r : ℕ). every (mayAt P k s₀) (bodyOf starts entries r)) (sym q) ∙ may-all g (bodyOf starts entries i) (next .1)))
 
-  pub rules-fail : {r : ℕ} → r < n → false ≡ every f (rule r .body) → RulesLeft rule f a n r → RulesLeft rule f a n (r + 1)
-  rules-fail {r} h e l = record { left = next-rule h l ∙ rw (← e, and-false (eqb (rule r .head) a)) refl }
-
-  pub rules-hold : {r : ℕ} → r < n → rule r .head ≡ a → true ≡ every f (rule r .body) → RulesLeft rule f a n r → true ≡ supported (rows rule 0 n) f a
-  rules-hold {r} h q e l = sym (next-rule h l ∙ rw (eq-eqb (rule r .head) a q, ← e) refl)
-
-  pub rules-over : {r : ℕ} → n ≤ r → RulesLeft rule f a n r → false ≡ supported (rows rule 0 n) f a
-  rules-over {r} h l = sym (l .left ∙ ap (λ (P : List Rule). supported P f a) (rows-end rule r n h) ∙ supported-none f a)
-
--- a question that is an entry of a body has a literal below the capacity
-pub asked-below : (l : ℕ) (d : Bool) (e : Entry) → questionOf l d ≡ e → literalIn e < capacity → l < capacity
-asked-below l false e q h = rw (← q) at h
-asked-below l true e q h = rw (← q) at h
+    pub rules-end : isFails f ≡ false → Visited P k s₀ s′ (supportedBy firsts rules starts entries (sureAt P k s₀) a) (supportedBy firsts rules starts entries (mayAt P k s₀) a) f
+    rules-end n =
+        ends-with f g v (λ _ m. rules-one l (sureAt P k s₀) inside (ap (λ (r : ℕ). every (sureAt P k s₀) (bodyOf starts entries r)) (sym q) ∙ sure-all g (bodyOf starts entries i) m))
+        (λ h. absurd (clash h n))

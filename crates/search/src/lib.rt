@@ -1,15 +1,21 @@
-// The search of a question through its pruned trees, by value: ancestors are sets of literals that each call hands on. Neither M nor N is read.
+// The search of a question through its pruned trees. Ancestors are marks in two lent tables, set on the way down and taken off on the way up. The same
+// tables keep, for one search, what the trees answer for a literal, so that no tree is walked again for nothing. Neither M nor N is read.
 ghost use mathlib.Core.Path.{_≡_};
-ghost use Prim.Native.Nat.{_<_, _≤_};
+ghost use mathlib.Core.Bool.{cond};
+ghost use Prim.Native.Nat.{ℕ, _<_, _≤_};
+ghost use lib.ListN.{length, getD};
+ghost use Rattle.wfsx.specs.Model.{every};
 ghost use Rattle.wfsx.specs.Sets.{∅};
-ghost use Rattle.wfsx.specs.Model.{every, supported};
 ghost use Rattle.wfsx.specs.Trees.{tree, answer, T, TU};
 ghost use Rattle.litset.specs.Words.{capacity, setOf};
-ghost use Rattle.book.specs.Book.{entryIs, rulesIn, ruleAt, programOf};
-ghost use Rattle.search.specs.Questions.{treeOf, questionOf};
-ghost use Rattle.search.specs.Walk.{Lent, programIn, childIn};
+ghost use Rattle.book.specs.Book.{entryIs, literalIn, bodyOf, programOf};
+ghost use Rattle.index.specs.Index.{supportedBy};
+ghost use Rattle.search.specs.Questions.{treeOf, questionOf, decidedBy};
+ghost use Rattle.search.specs.Marks.{aboveIn, outsideMarked, turned, turnedIn, tLeft, heldLeft, uLeft, isHolds, isFails, found, leafSays};
+ghost use Rattle.search.specs.Walk.{programBy, headIn, state, headCount, mostVisits, Ready, Visited, TVisit, TuVisit, TuSearch, sureAt, mayAt};
 use book::Book;
 use book::Entry;
+use index::Index;
 use litset::LitSet;
 
 pub enum Tree {
@@ -17,235 +23,630 @@ pub enum Tree {
     Tu,
 }
 
+// What a visit finds: that the literal holds, that it fails, or that a TU-tree waits for a T-tree for another literal.
+enum Finding {
+    Holds,
+    Fails,
+    Waits(usize),
+}
+
+// Marks of a literal in T-trees; 0 is none.
+const PROVED: u8 = 1;
+
+const FAILED: u8 = 2;
+
+const ABOVE: u8 = 3;
+
+const NEVER: u8 = 4;
+
+// Marks of a literal in TU-trees; 0 is none.
+const FALSE: u8 = 1;
+
+const HELD: u8 = 2;
+
+const SHUT: u8 = 3;
+
+const PATH: u8 = 4;
+
 // Whether the literal, or `not` of it where `default` says so, holds as the question of a search of this kind. A literal past the capacity has
 // no rule and is no fact: it fails, and `not` of it holds.
 pub fn search(book: Book, facts: LitSet, literal: usize, default: bool, tree: Tree) -> bool
     ensures { λ r. ⌜ r ≡ answer (programOf book (setOf (facts .words))) (treeOf tree) (questionOf literal default) ⌝ }
 {
-    if litset::CAPACITY <= literal {
-        return default;
-    }
-    let count = book::rule_count(book);
-    let holds = child(
-        &book.heads,
-        &book.starts,
-        &book.entries,
-        count,
-        facts,
-        tree,
-        literal,
-        default,
-        litset::empty(),
-        litset::empty(),
-    );
-    holds
+    search_counted(book, facts, literal, default, tree).holds
 }
 
-// A child of a node, or the question: the node that it opens. From here on the tables of the book are lent, and not copied.
-fn child<'a>(
-    heads: &'a [u16],
+// An answer, and how many nodes asked their rules for it.
+pub struct Counted {
+    pub holds: bool,
+    pub visits: usize,
+}
+
+// The same search, with its visits.
+pub fn search_counted(
+    book: Book,
+    facts: LitSet,
+    literal: usize,
+    default: bool,
+    tree: Tree,
+) -> Counted
+    ensures { λ r. ⌜ (r .holds ≡ answer (programOf book (setOf (facts .words))) (treeOf tree) (questionOf literal default))
+        × (r .visits ≤ mostVisits (headCount (programOf book (setOf (facts .words))))) ⌝ }
+{
+    if litset::CAPACITY <= literal {
+        return Counted {
+            holds: default,
+            visits: 0,
+        };
+    }
+    let by_head = index::index_of(book);
+    let walked = walk(
+        &by_head.starts,
+        &by_head.rules,
+        &book.starts,
+        &book.entries,
+        facts,
+        decided_by(tree, default),
+        literal,
+    );
+    if default {
+        return Counted {
+            holds: !walked.holds,
+            visits: walked.visits,
+        };
+    }
+    walked
+}
+
+// The kind of the tree that decides a question.
+fn decided_by(tree: Tree, default: bool) -> Tree
+    ensures { λ r. ⌜ treeOf r ≡ decidedBy (treeOf tree) default ⌝ }
+{
+    if !default {
+        return tree;
+    }
+    match tree {
+        Tree::T => Tree::Tu,
+        Tree::Tu => Tree::T,
+    }
+}
+
+// The trees of this kind for a literal, with nothing above them. From here on the tables of the book are lent, and not copied.
+fn walk<'a>(
+    firsts: &'a [u16],
+    rules: &'a [u16],
     starts: &'a [u16],
     entries: &'a [u16],
-    count: usize,
     facts: LitSet,
     kind: Tree,
-    b: usize,
-    default: bool,
-    path: LitSet,
-    above: LitSet,
+    literal: usize,
+) -> Counted
+    requires { ⌜ literal < capacity ⌝ }
+    ensures { λ r. ⌜ (r .holds ≡ tree (programBy (now (firsts .entry)) (now (rules .entry)) (now (starts .entry)) (now (entries .entry)) (facts .words)) (treeOf kind) ∅ ∅ literal)
+        × (r .visits ≤ mostVisits (headCount (programBy (now (firsts .entry)) (now (rules .entry)) (now (starts .entry)) (now (entries .entry)) (facts .words)))) ⌝ }
+{
+    let mut in_t = headless(firsts, rules, facts, NEVER);
+    let mut in_tu = headless(firsts, rules, facts, FALSE);
+    let mut visits: usize = 0;
+    let holds = root(
+        firsts,
+        rules,
+        starts,
+        entries,
+        facts,
+        &mut in_t,
+        &mut in_tu,
+        &mut visits,
+        kind,
+        literal,
+    );
+    Counted { holds, visits }
+}
+
+// The trees for a literal, over tables in which nothing stands above it.
+fn root<'a>(
+    firsts: &'a [u16],
+    rules: &'a [u16],
+    starts: &'a [u16],
+    entries: &'a [u16],
+    facts: LitSet,
+    in_t: &mut [u8; litset::CAPACITY],
+    in_tu: &mut [u8; litset::CAPACITY],
+    visits: &mut usize,
+    kind: Tree,
+    a: usize,
 ) -> bool
-    requires { ⌜ Lent (now heads) (now starts) count (facts .words) × (b < capacity) ⌝ }
-    ensures { λ r. ⌜ r ≡ childIn
-        (programIn (now (heads .entry)) (now (starts .entry)) (now (entries .entry)) count (facts .words))
-        (treeOf kind) (setOf (path .words)) (setOf (above .words)) (questionOf b default) ⌝ }
+    requires { ⌜ (a < capacity) × (Ready (programBy (now firsts) (now rules) (now starts) (now entries) (facts .words)) T
+        (state (now «in_t») (now «in_tu») (now visits)) 0 × (aboveIn (now «in_t») ≡ ∅)) ⌝ }
+    ensures { λ r. ⌜ (r ≡ tree (programBy (now (firsts .entry)) (now (rules .entry)) (now (starts .entry)) (now (entries .entry)) (facts .words)) (treeOf kind) ∅ ∅ a)
+        × (now (visits .exit) ≤ mostVisits (headCount (programBy (now (firsts .entry)) (now (rules .entry)) (now (starts .entry)) (now (entries .entry)) (facts .words)))) ⌝ }
 {
     match kind {
         Tree::T => {
-            if default {
-                // The second way, a T-tree for the complement, is left out: it follows from the first (`first-way`).
-                let none = litset::empty();
-                return !tu_node(heads, starts, entries, count, facts, b, none, above);
-            }
-            return t_node(heads, starts, entries, count, facts, b, above);
+            return t_node(
+                firsts,
+                rules,
+                starts,
+                entries,
+                facts,
+                in_t,
+                in_tu,
+                visits,
+                a,
+            );
         }
         Tree::Tu => {
-            if default {
-                return !t_node(heads, starts, entries, count, facts, b, above);
-            }
-            return tu_node(heads, starts, entries, count, facts, b, path, above);
+            return tu_search(
+                firsts,
+                rules,
+                starts,
+                entries,
+                facts,
+                in_t,
+                in_tu,
+                visits,
+                a,
+            );
         }
     }
 }
 
-// A node of a T-tree. `above` has its local ancestors and its global T-ancestors: both prune alike (`one-set`).
-fn t_node<'a>(
-    heads: &'a [u16],
-    starts: &'a [u16],
-    entries: &'a [u16],
-    count: usize,
+// ---- marks
+
+// A table with this mark at every literal that is no head: it fails, whatever stands above it, and nothing is opened for it.
+fn headless<'a>(
+    firsts: &'a [u16],
+    rules: &'a [u16],
     facts: LitSet,
-    a: usize,
-    above: LitSet,
-) -> bool
-    requires { ⌜ Lent (now heads) (now starts) count (facts .words) × (a < capacity) ⌝ }
-    ensures { λ r. ⌜ r ≡ tree
-        (programIn (now (heads .entry)) (now (starts .entry)) (now (entries .entry)) count (facts .words))
-        T ∅ (setOf (above .words)) a ⌝ }
+    mark: u8,
+) -> [u8; litset::CAPACITY]
+    ensures { λ r. ⌜ r ≡ outsideMarked mark (headIn (now (firsts .entry)) (now (rules .entry)) (facts .words)) ⌝ }
 {
-    if litset::contains(above, a) {
-        return false;
+    let mut marks = [0u8; litset::CAPACITY];
+    let mut a: usize = 0;
+    while a < litset::CAPACITY {
+        marks[a] = mark_unless(is_head(firsts, rules, facts, a), mark);
+        a += 1;
     }
+    marks
+}
+
+fn mark_unless(known: bool, mark: u8) -> u8
+    ensures { λ r. ⌜ r ≡ cond known 0 mark ⌝ }
+{
+    if known { 0 } else { mark }
+}
+
+// Whether the literal has a rule or is a fact.
+fn is_head<'a>(firsts: &'a [u16], rules: &'a [u16], facts: LitSet, a: usize) -> bool
+    ensures { λ r. ⌜ r ≡ headIn (now (firsts .entry)) (now (rules .entry)) (facts .words) a ⌝ }
+{
     if litset::contains(facts, a) {
         return true;
     }
-    let wider = litset::insert(above, a);
-    some_rule(
-        heads,
-        starts,
-        entries,
-        count,
-        facts,
-        Tree::T,
-        a,
-        litset::empty(),
-        wider,
-    )
+    index::rules_start(firsts, a) < index::rules_end(firsts, rules, a)
 }
 
-// A node of a TU-tree with its local path. The added leaf, `not` of the complement, is asked for once and not under each rule
-// (`complement-once`).
-fn tu_node<'a>(
-    heads: &'a [u16],
+// Each mark `from` of a table becomes `to`.
+fn turn(marks: &mut [u8; litset::CAPACITY], from: u8, to: u8)
+    requires { ⌜ (0 < from) × (length (now marks) ≡ capacity) ⌝ }
+    ensures { λ r. ⌜ now (marks .exit) ≡ turnedIn from to (now (marks .entry)) ⌝ }
+{
+    let mut i: usize = 0;
+    while i < litset::CAPACITY {
+        marks[i] = turned_mark(marks[i], from, to);
+        i += 1;
+    }
+}
+
+fn turned_mark(mark: u8, from: u8, to: u8) -> u8
+    ensures { λ r. ⌜ r ≡ turned from to mark ⌝ }
+{
+    if mark == from { to } else { mark }
+}
+
+// ---- findings
+
+fn holds(f: Finding) -> bool
+    ensures { λ r. ⌜ r ≡ isHolds f ⌝ }
+{
+    match f {
+        Finding::Holds => true,
+        Finding::Fails => false,
+        Finding::Waits(_) => false,
+    }
+}
+
+fn fails(f: Finding) -> bool
+    ensures { λ r. ⌜ r ≡ isFails f ⌝ }
+{
+    match f {
+        Finding::Holds => false,
+        Finding::Fails => true,
+        Finding::Waits(_) => false,
+    }
+}
+
+fn found(holds: bool) -> Finding
+    ensures { λ r. ⌜ r ≡ found holds ⌝ }
+{
+    if holds {
+        Finding::Holds
+    } else {
+        Finding::Fails
+    }
+}
+
+// What a leaf `not b` of a TU-tree says by the mark of `b` in T-trees. Where there is none a T-tree is wanted first.
+fn leaf_says(mark: u8, b: usize) -> Finding
+    ensures { λ r. ⌜ r ≡ leafSays mark b ⌝ }
+{
+    if mark == 0 {
+        return Finding::Waits(b);
+    }
+    found(mark != PROVED)
+}
+
+// ---- T-trees
+
+// A node of a T-tree. A literal that fails leaves all that was found below it true, and one that holds is kept for good.
+fn t_node<'a>(
+    firsts: &'a [u16],
+    rules: &'a [u16],
     starts: &'a [u16],
     entries: &'a [u16],
-    count: usize,
     facts: LitSet,
+    in_t: &mut [u8; litset::CAPACITY],
+    in_tu: &mut [u8; litset::CAPACITY],
+    visits: &mut usize,
     a: usize,
-    path: LitSet,
-    above: LitSet,
 ) -> bool
-    requires { ⌜ Lent (now heads) (now starts) count (facts .words) × (a < capacity) ⌝ }
-    ensures { λ r. ⌜ r ≡ tree
-        (programIn (now (heads .entry)) (now (starts .entry)) (now (entries .entry)) count (facts .words))
-        TU (setOf (path .words)) (setOf (above .words)) a ⌝ }
+    requires { ⌜ (a < capacity) × Ready (programBy (now firsts) (now rules) (now starts) (now entries) (facts .words)) T
+        (state (now «in_t») (now «in_tu») (now visits)) (headCount (programBy (now firsts) (now rules) (now starts) (now entries) (facts .words))) ⌝ }
+    ensures { λ r. ⌜ TVisit (programBy (now (firsts .entry)) (now (rules .entry)) (now (starts .entry)) (now (entries .entry)) (facts .words))
+        (state (now («in_t» .entry)) (now («in_tu» .entry)) (now (visits .entry)))
+        (state (now («in_t» .exit)) (now («in_tu» .exit)) (now (visits .exit))) a r ⌝ }
 {
-    if litset::contains(path, a) {
-        return false;
+    let known = in_t[a];
+    if known != 0 {
+        return known == PROVED;
     }
-    let other = litset::complement(a);
-    let leaf = !t_node(heads, starts, entries, count, facts, other, above);
-    if leaf {
-        if litset::contains(facts, a) {
-            return true;
+    if litset::contains(facts, a) {
+        in_t[a] = PROVED;
+        return true;
+    }
+    *visits += 1;
+    in_t[a] = ABOVE;
+    let f = some_rule(
+        firsts,
+        rules,
+        starts,
+        entries,
+        facts,
+        in_t,
+        in_tu,
+        visits,
+        Tree::T,
+        a,
+    );
+    leave_t(in_t, in_tu, a, f);
+    holds(f)
+}
+
+// The node of a T-tree is left: its literal is no ancestor any more. Where it holds, what failed or was held below it may not be so above it.
+fn leave_t(
+    in_t: &mut [u8; litset::CAPACITY],
+    in_tu: &mut [u8; litset::CAPACITY],
+    a: usize,
+    f: Finding,
+)
+    requires { ⌜ (a < capacity) × ((length (now «in_t») ≡ capacity) × (length (now «in_tu») ≡ capacity)) ⌝ }
+    ensures { λ r. ⌜ (now («in_t» .exit) ≡ tLeft f a (now («in_t» .entry))) × (now («in_tu» .exit) ≡ heldLeft f (now («in_tu» .entry))) ⌝ }
+{
+    match f {
+        Finding::Holds => {
+            turn(in_t, FAILED, 0);
+            turn(in_tu, HELD, 0);
+            in_t[a] = PROVED;
         }
-        let longer = litset::insert(path, a);
-        return some_rule(
-            heads,
+        Finding::Fails => {
+            in_t[a] = FAILED;
+        }
+        Finding::Waits(_) => {
+            in_t[a] = FAILED;
+        }
+    }
+}
+
+// ---- TU-trees
+
+// The TU-trees for a literal. A T-tree that one of them waits for is opened from here, and the walk begun again with what is then known: so no TU-tree
+// stands above a T-tree, and the stack is linear in the literals.
+fn tu_search<'a>(
+    firsts: &'a [u16],
+    rules: &'a [u16],
+    starts: &'a [u16],
+    entries: &'a [u16],
+    facts: LitSet,
+    in_t: &mut [u8; litset::CAPACITY],
+    in_tu: &mut [u8; litset::CAPACITY],
+    visits: &mut usize,
+    a: usize,
+) -> bool
+    requires { ⌜ (a < capacity) × Ready (programBy (now firsts) (now rules) (now starts) (now entries) (facts .words)) T
+        (state (now «in_t») (now «in_tu») (now visits)) 0 ⌝ }
+    ensures { λ r. ⌜ TuSearch (programBy (now (firsts .entry)) (now (rules .entry)) (now (starts .entry)) (now (entries .entry)) (facts .words))
+        (state (now («in_t» .entry)) (now («in_tu» .entry)) (now (visits .entry)))
+        (state (now («in_t» .exit)) (now («in_tu» .exit)) (now (visits .exit))) a r ⌝ }
+{
+    loop {
+        let f = tu_node(
+            firsts,
+            rules,
             starts,
             entries,
-            count,
             facts,
-            Tree::Tu,
+            in_t,
+            in_tu,
+            visits,
             a,
-            longer,
-            above,
         );
+        match f {
+            Finding::Holds => {
+                return true;
+            }
+            Finding::Fails => {
+                turn(in_tu, SHUT, FALSE);
+                return false;
+            }
+            Finding::Waits(l) => {
+                turn(in_tu, SHUT, 0);
+                t_node(
+                    firsts,
+                    rules,
+                    starts,
+                    entries,
+                    facts,
+                    in_t,
+                    in_tu,
+                    visits,
+                    l,
+                );
+            }
+        }
     }
-    false
 }
+
+// A node of a TU-tree. The added leaf, `not` of the complement, is asked for once and not under each rule (`complement-once`).
+fn tu_node<'a>(
+    firsts: &'a [u16],
+    rules: &'a [u16],
+    starts: &'a [u16],
+    entries: &'a [u16],
+    facts: LitSet,
+    in_t: &mut [u8; litset::CAPACITY],
+    in_tu: &mut [u8; litset::CAPACITY],
+    visits: &mut usize,
+    a: usize,
+) -> Finding
+    requires { ⌜ (a < capacity) × Ready (programBy (now firsts) (now rules) (now starts) (now entries) (facts .words)) TU
+        (state (now «in_t») (now «in_tu») (now visits)) 0 ⌝ }
+    ensures { λ r. ⌜ TuVisit (programBy (now (firsts .entry)) (now (rules .entry)) (now (starts .entry)) (now (entries .entry)) (facts .words))
+        (state (now («in_t» .entry)) (now («in_tu» .entry)) (now (visits .entry)))
+        (state (now («in_t» .exit)) (now («in_tu» .exit)) (now (visits .exit))) a r ⌝ }
+{
+    let known = in_tu[a];
+    if known != 0 {
+        return found(known == HELD);
+    }
+    let other = litset::complement(a);
+    let leaf = leaf_says(in_t[other], other);
+    if !holds(leaf) {
+        return leaf;
+    }
+    if litset::contains(facts, a) {
+        return Finding::Holds;
+    }
+    *visits += 1;
+    in_tu[a] = PATH;
+    let f = some_rule(
+        firsts,
+        rules,
+        starts,
+        entries,
+        facts,
+        in_t,
+        in_tu,
+        visits,
+        Tree::Tu,
+        a,
+    );
+    leave_tu(in_tu, a, f);
+    f
+}
+
+// The node of a TU-tree is left: its literal is not on the path any more. Where it holds, what failed below it may not fail above it.
+fn leave_tu(in_tu: &mut [u8; litset::CAPACITY], a: usize, f: Finding)
+    requires { ⌜ (a < capacity) × (length (now «in_tu») ≡ capacity) ⌝ }
+    ensures { λ r. ⌜ now («in_tu» .exit) ≡ uLeft f a (now («in_tu» .entry)) ⌝ }
+{
+    match f {
+        Finding::Holds => {
+            turn(in_tu, SHUT, 0);
+            in_tu[a] = HELD;
+        }
+        Finding::Fails => {
+            in_tu[a] = SHUT;
+        }
+        Finding::Waits(_) => {
+            in_tu[a] = 0;
+        }
+    }
+}
+
+// ---- the rules and the entries of either tree
 
 // Whether all children under some rule for `a` hold.
 fn some_rule<'a>(
-    heads: &'a [u16],
+    firsts: &'a [u16],
+    rules: &'a [u16],
     starts: &'a [u16],
     entries: &'a [u16],
-    count: usize,
     facts: LitSet,
+    in_t: &mut [u8; litset::CAPACITY],
+    in_tu: &mut [u8; litset::CAPACITY],
+    visits: &mut usize,
     kind: Tree,
     a: usize,
-    path: LitSet,
-    above: LitSet,
-) -> bool
-    requires { ⌜ Lent (now heads) (now starts) count (facts .words) ⌝ }
-    ensures { λ r. ⌜ r ≡ supported (rulesIn (now (heads .entry)) (now (starts .entry)) (now (entries .entry)) count) (childIn
-        (programIn (now (heads .entry)) (now (starts .entry)) (now (entries .entry)) count (facts .words))
-        (treeOf kind) (setOf (path .words)) (setOf (above .words))) a ⌝ }
+) -> Finding
+    requires { ⌜ Ready (programBy (now firsts) (now rules) (now starts) (now entries) (facts .words)) (treeOf kind)
+        (state (now «in_t») (now «in_tu») (now visits)) 0 ⌝ }
+    ensures { λ r. ⌜ Visited (programBy (now (firsts .entry)) (now (rules .entry)) (now (starts .entry)) (now (entries .entry)) (facts .words)) (treeOf kind)
+        (state (now («in_t» .entry)) (now («in_tu» .entry)) (now (visits .entry)))
+        (state (now («in_t» .exit)) (now («in_tu» .exit)) (now (visits .exit)))
+        (supportedBy (now (firsts .entry)) (now (rules .entry)) (now (starts .entry)) (now (entries .entry))
+        (sureAt (programBy (now (firsts .entry)) (now (rules .entry)) (now (starts .entry)) (now (entries .entry)) (facts .words)) (treeOf kind) (state (now («in_t» .entry)) (now («in_tu» .entry)) (now (visits .entry)))) a)
+        (supportedBy (now (firsts .entry)) (now (rules .entry)) (now (starts .entry)) (now (entries .entry))
+        (mayAt (programBy (now (firsts .entry)) (now (rules .entry)) (now (starts .entry)) (now (entries .entry)) (facts .words)) (treeOf kind) (state (now («in_t» .entry)) (now («in_tu» .entry)) (now (visits .entry)))) a) r ⌝ }
 {
-    let mut r: usize = 0;
-    while r < count {
-        let i = r;
-        r += 1;
-        if book::head_at(heads, i) != a {
-            continue;
+    let end = index::rules_end(firsts, rules, a);
+    let mut p = index::rules_start(firsts, a);
+    while p < end {
+        let i = index::rule_at(rules, p);
+        let f = all_children(
+            firsts,
+            rules,
+            starts,
+            entries,
+            facts,
+            in_t,
+            in_tu,
+            visits,
+            kind,
+            i,
+        );
+        if !fails(f) {
+            return f;
         }
-        if all_children(heads, starts, entries, count, facts, kind, i, path, above) {
-            return true;
-        }
+        p += 1;
     }
-    false
-}
-
-// The question that an entry asks: a literal, or `not` of it where `default` says so.
-struct Question {
-    literal: usize,
-    default: bool,
-}
-
-fn question_of(e: Entry) -> Question
-    ensures { λ r. ⌜ questionOf (r .literal) (r .default) ≡ entryIs e ⌝ }
-{
-    match e {
-        Entry::Positive(literal) => {
-            return Question {
-                literal,
-                default: false,
-            };
-        }
-        Entry::Default(literal) => {
-            return Question {
-                literal,
-                default: true,
-            };
-        }
-    }
+    Finding::Fails
 }
 
 // Whether all children under rule `i` hold.
 fn all_children<'a>(
-    heads: &'a [u16],
+    firsts: &'a [u16],
+    rules: &'a [u16],
     starts: &'a [u16],
     entries: &'a [u16],
-    count: usize,
     facts: LitSet,
+    in_t: &mut [u8; litset::CAPACITY],
+    in_tu: &mut [u8; litset::CAPACITY],
+    visits: &mut usize,
     kind: Tree,
     i: usize,
-    path: LitSet,
-    above: LitSet,
-) -> bool
-    requires { ⌜ Lent (now heads) (now starts) count (facts .words) × (i < count) ⌝ }
-    ensures { λ r. ⌜ r ≡ every (childIn
-        (programIn (now (heads .entry)) (now (starts .entry)) (now (entries .entry)) count (facts .words))
-        (treeOf kind) (setOf (path .words)) (setOf (above .words))) (ruleAt (now (heads .entry)) (now (starts .entry)) (now (entries .entry)) i .body) ⌝ }
+) -> Finding
+    requires { ⌜ Ready (programBy (now firsts) (now rules) (now starts) (now entries) (facts .words)) (treeOf kind)
+        (state (now «in_t») (now «in_tu») (now visits)) 0 ⌝ }
+    ensures { λ r. ⌜ Visited (programBy (now (firsts .entry)) (now (rules .entry)) (now (starts .entry)) (now (entries .entry)) (facts .words)) (treeOf kind)
+        (state (now («in_t» .entry)) (now («in_tu» .entry)) (now (visits .entry)))
+        (state (now («in_t» .exit)) (now («in_tu» .exit)) (now (visits .exit)))
+        (every (sureAt (programBy (now (firsts .entry)) (now (rules .entry)) (now (starts .entry)) (now (entries .entry)) (facts .words)) (treeOf kind) (state (now («in_t» .entry)) (now («in_tu» .entry)) (now (visits .entry)))) (bodyOf (now (starts .entry)) (now (entries .entry)) i))
+        (every (mayAt (programBy (now (firsts .entry)) (now (rules .entry)) (now (starts .entry)) (now (entries .entry)) (facts .words)) (treeOf kind) (state (now («in_t» .entry)) (now («in_tu» .entry)) (now (visits .entry)))) (bodyOf (now (starts .entry)) (now (entries .entry)) i)) r ⌝ }
 {
     let end = book::body_end(starts, entries, i);
     let mut j = book::body_start(starts, i);
     while j < end {
-        let q = question_of(book::entry_at(entries, j));
-        if !child(
-            heads,
+        let f = child(
+            firsts,
+            rules,
             starts,
             entries,
-            count,
             facts,
+            in_t,
+            in_tu,
+            visits,
             kind,
-            q.literal,
-            q.default,
-            path,
-            above,
-        ) {
-            return false;
+            book::entry_at(entries, j),
+        );
+        if !holds(f) {
+            return f;
         }
         j += 1;
     }
-    true
+    Finding::Holds
+}
+
+// A child of a node. In a T-tree the second way of a leaf, a T-tree for the complement, is left out: it follows from the first (`first-way`). A leaf of a
+// TU-tree opens nothing itself.
+fn child<'a>(
+    firsts: &'a [u16],
+    rules: &'a [u16],
+    starts: &'a [u16],
+    entries: &'a [u16],
+    facts: LitSet,
+    in_t: &mut [u8; litset::CAPACITY],
+    in_tu: &mut [u8; litset::CAPACITY],
+    visits: &mut usize,
+    kind: Tree,
+    e: Entry,
+) -> Finding
+    requires { ⌜ (literalIn (entryIs e) < capacity) × Ready (programBy (now firsts) (now rules) (now starts) (now entries) (facts .words)) (treeOf kind)
+        (state (now «in_t») (now «in_tu») (now visits)) 0 ⌝ }
+    ensures { λ r. ⌜ Visited (programBy (now (firsts .entry)) (now (rules .entry)) (now (starts .entry)) (now (entries .entry)) (facts .words)) (treeOf kind)
+        (state (now («in_t» .entry)) (now («in_tu» .entry)) (now (visits .entry)))
+        (state (now («in_t» .exit)) (now («in_tu» .exit)) (now (visits .exit)))
+        (sureAt (programBy (now (firsts .entry)) (now (rules .entry)) (now (starts .entry)) (now (entries .entry)) (facts .words)) (treeOf kind) (state (now («in_t» .entry)) (now («in_tu» .entry)) (now (visits .entry))) (entryIs e))
+        (mayAt (programBy (now (firsts .entry)) (now (rules .entry)) (now (starts .entry)) (now (entries .entry)) (facts .words)) (treeOf kind) (state (now («in_t» .entry)) (now («in_tu» .entry)) (now (visits .entry))) (entryIs e)) r ⌝ }
+{
+    match e {
+        Entry::Positive(b) => match kind {
+            Tree::T => {
+                return found(t_node(
+                    firsts,
+                    rules,
+                    starts,
+                    entries,
+                    facts,
+                    in_t,
+                    in_tu,
+                    visits,
+                    b,
+                ));
+            }
+            Tree::Tu => {
+                return tu_node(
+                    firsts,
+                    rules,
+                    starts,
+                    entries,
+                    facts,
+                    in_t,
+                    in_tu,
+                    visits,
+                    b,
+                );
+            }
+        },
+        Entry::Default(b) => match kind {
+            Tree::T => {
+                return found(
+                    !tu_search(
+                        firsts,
+                        rules,
+                        starts,
+                        entries,
+                        facts,
+                        in_t,
+                        in_tu,
+                        visits,
+                        b,
+                    ),
+                );
+            }
+            Tree::Tu => {
+                return leaf_says(in_t[b], b);
+            }
+        },
+    }
 }

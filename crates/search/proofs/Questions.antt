@@ -1,0 +1,203 @@
+-- The question: nothing stands above it, so what a walk is sure of and what may be are the same. The tables begin with the literals that are no heads marked, and the index gives
+-- the rules of the book.
+use mathlib.Core.Path.{_≡_, refl, sym, _∙_, ap, fun-ext, subst}
+use mathlib.Core.Logic.{_⊎_, inl, inr, ⊎-elim}
+use mathlib.Core.Bool.{Bool, true, false, not, cond, _||_, and-false}
+use mathlib.Core.List.{List}
+use Prim.Native.Nat.{ℕ, _+_, _≤_, _<_}
+use native.Mathlib.Decide.{decLt}
+use native.Mathlib.Omega.{arith}
+use lib.Dec.{eqb, ltb}
+use lib.ListN.{length, getD, List·getD-eq-default}
+use borrow.Author.Tests.{lt-ltb, le-ltb}
+use Rattle.truth.proofs.Truth.{clash, refuted, or-none}
+use Rattle.truth.proofs.Truth as truth
+use Rattle.wfsx.specs.Sets.{Set, _∈_, _∉_, ∅, members}
+use Rattle.wfsx.specs.Program.{compl, Entry, positive, default, Program}
+use Rattle.wfsx.specs.Model.{supported, headed}
+use Rattle.wfsx.specs.Trees.{Tree, T, TU, child, tree, answer}
+use Rattle.wfsx.proofs.Sets.{⊆-antisym}
+use Rattle.wfsx.proofs.Facts.{supported-facts}
+use Rattle.wfsx.proofs.Trees.{first-way, answer-is, answer-same}
+use Rattle.wfsx.proofs.Ancestors.{t-headless, u-headless}
+use Rattle.litset.specs.Words.{nWords, capacity, setOf}
+use Rattle.litset.proofs.Words.{member-room}
+use Rattle.book.specs.Book.{programOf, rulesOf}
+use Rattle.book.specs.declared.Book.{Book}
+use Rattle.book.proofs.Heads.{program-of, past-unsupported}
+use Rattle.index.specs.Index.{headStarts, headRules, rulesStart, rulesEnd, supportedBy, rulesBy, indexOf}
+use Rattle.index.specs.declared.Index.{Index}
+use Rattle.index.proofs.Walks.{rules-some, rules-none, supported-below, indexed-same}
+use Rattle.search.specs.declared.Tree as declared
+use Rattle.search.specs.Questions.{treeOf, questionOf, decidedBy}
+use Rattle.search.specs.Marks.{marked, aboveIn, outsideMarked}
+use Rattle.search.specs.Walk.{State, state, programBy, headIn, Tables, Resting, headCount, mostVisits, leftIn, Paid, Ready, Settled, TVisit, TuSearch}
+use Rattle.search.proofs.Marks.{marked-is, marked-at, marked-not, outside-room, outside-at}
+use Rattle.search.proofs.Answers.{Joined}
+use Rattle.search.proofs.Stock.{left-most}
+
+-- ---- the program of an index
+
+module _ (firsts rules starts entries facts : List ℕ) (long : length facts ≡ nWords) where
+  abbrev P : Program
+  P = programBy firsts rules starts entries facts
+
+  supported-is : (f : Entry → Bool) (A : ℕ) → supported P f A ≡ (supported (rulesBy firsts rules starts entries capacity) f A || setOf facts A)
+  unfolding programBy
+  supported-is f A = supported-facts (rulesBy firsts rules starts entries capacity) capacity (setOf facts) (member-room facts long) f A
+
+  pub joined-by : Joined P (supportedBy firsts rules starts entries) (setOf facts)
+  joined-by = record { joined = λ f A small. supported-is f A ∙ ap (λ (b : Bool). b || setOf facts A) (below f A small) }
+    where
+      below : (f : Entry → Bool) (A : ℕ) → A < capacity → supported (rulesBy firsts rules starts entries capacity) f A ≡ supportedBy firsts rules starts entries f A
+      below f A small = supported-below firsts rules starts entries f A capacity ∙ rw (lt-ltb A capacity small) refl
+
+  -- its heads are the facts and the literals that have rules
+  pub headed-is : (A : ℕ) → A < capacity → headed P A ≡ headIn firsts rules facts A
+  headed-is A small = joined-by .joined (λ e. true) A small ∙ go (decLt (rulesStart firsts A) (rulesEnd firsts rules A)) (setOf facts A)
+    where
+      or-swap : (b c : Bool) → (b || c) ≡ (c || b)
+      or-swap true true = refl
+      or-swap true false = refl
+      or-swap false true = refl
+      or-swap false false = refl
+
+      go : Dec (rulesStart firsts A < rulesEnd firsts rules A) → (b : Bool)
+          → (supportedBy firsts rules starts entries (λ e. true) A || b) ≡ (b || ltb (rulesStart firsts A) (rulesEnd firsts rules A))
+      go (yes h) b = rw (rules-some firsts rules starts entries A h, lt-ltb (rulesStart firsts A) (rulesEnd firsts rules A) h) (or-swap true b)
+      go (no h) b = rw (rules-none firsts rules starts entries A (λ e. true) (omega arith), le-ltb (rulesStart firsts A) (rulesEnd firsts rules A) (omega arith)) (or-swap false b)
+
+  -- ---- the tables at the start
+
+  abbrev heads : Set
+  heads = headIn firsts rules facts
+
+  -- a mark stands at a literal that is no head, and nowhere else
+  mark-cases : (v A : ℕ) → (getD (outsideMarked v heads) A 0 ≡ 0) ⊎ ((A ∉ headed P) × (getD (outsideMarked v heads) A 0 ≡ v))
+  mark-cases v A = go (decLt A capacity) (truth.decided (heads A))
+    where
+      go : Dec (A < capacity) → (A ∈ heads) ⊎ (A ∉ heads) → (getD (outsideMarked v heads) A 0 ≡ 0) ⊎ ((A ∉ headed P) × (getD (outsideMarked v heads) A 0 ≡ v))
+      go (yes h) (inl m) = inl (outside-at v heads A h ∙ ap (λ (b : Bool). cond b 0 v) m)
+      go (yes h) (inr m) = inr (headed-is A h ∙ m, outside-at v heads A h ∙ ap (λ (b : Bool). cond b 0 v) m)
+      go (no h) d = inl (List·getD-eq-default (outsideMarked v heads) 0 (omega (arith, outside-room v heads)))
+
+  -- so no other mark stands anywhere
+  unmarked : (v w A : ℕ) → (w ≡ 0 → ⊥) → (v ≡ w → ⊥) → A ∉ marked w (outsideMarked v heads)
+  unmarked v w A n m = marked-not w (outsideMarked v heads) A (λ e. ⊎-elim (λ z. n (sym e ∙ z)) (λ k. m (sym (k .1) ∙ e)) (mark-cases v A))
+
+  headless-at : (v A : ℕ) → (v ≡ 0 → ⊥) → A ∈ marked v (outsideMarked v heads) → A ∉ headed P
+  headless-at v A n m = ⊎-elim (λ z. absurd (n (sym (marked-at v (outsideMarked v heads) A m) ∙ z))) (λ k. k .0) (mark-cases v A)
+
+  headless-marked : (v A : ℕ) → A < capacity → A ∉ headed P → A ∈ marked v (outsideMarked v heads)
+  headless-marked v A h n = marked-is v (outsideMarked v heads) A (outside-at v heads A h ∙ ap (λ (b : Bool). cond b 0 v) (sym (headed-is A h) ∙ n))
+
+  small-marks : (v n : ℕ) → v ≤ n → (A : ℕ) → getD (outsideMarked v heads) A 0 ≤ n
+  small-marks v n l A = ⊎-elim (λ z. omega (arith, z)) (λ k. omega (arith, k .1)) (mark-cases v A)
+
+  first-tables : Tables P (outsideMarked 4 heads) (outsideMarked 1 heads)
+  first-tables =
+      record {
+        t-room = outside-room 4 heads;
+        u-room = outside-room 1 heads;
+        t-marks = small-marks 4 4 (omega arith);
+        u-marks = small-marks 1 4 (omega arith);
+        right = record {
+          proved-right = λ A m. absurd (clash m (unmarked 4 1 A (λ e. omega arith) (λ e. omega arith)));
+          failed-right = λ A m. absurd (clash m (unmarked 4 2 A (λ e. omega arith) (λ e. omega arith)));
+          never-right = λ A m. t-headless P ∅ A (headless-at 4 A (λ e. omega arith) m);
+          false-right = λ A m. u-headless P ∅ ∅ A (headless-at 1 A (λ e. omega arith) m);
+          held-right = λ A m. absurd (clash m (unmarked 1 2 A (λ e. omega arith) (λ e. omega arith)));
+          never-marked = headless-marked 4;
+          false-marked = headless-marked 1;
+        };
+      }
+
+  pub first-ready : (t u : List ℕ) → t ≡ outsideMarked 4 heads → u ≡ outsideMarked 1 heads → Ready P T (state t u 0) 0 × (aboveIn t ≡ ∅)
+  unfolding Resting
+  first-ready t u e q =
+      rw (e, q) (
+        record {
+          tables = first-tables;
+          resting = λ A. let l = small-marks 1 1 (omega arith) A in omega arith;
+          room = omega (arith, left-most P (outsideMarked 4 heads) (outsideMarked 1 heads) first-tables);
+        },
+        ⊆-antisym (λ A m. absurd (clash m (unmarked 4 3 A (λ e. omega arith) (λ e. omega arith)))) (λ A m. absurd (clash m refl)),
+      )
+
+-- ---- the root of a tree
+
+between : (r x : Bool) → (r ≡ true → x ≡ true) → (r ≡ false → x ≡ false) → r ≡ x
+between true x f g = sym (f refl)
+between false x f g = sym (g refl)
+
+module _ {P : Program} {s s′ : State} (a : ℕ) (r : Bool) (above : aboveIn (s .t) ≡ ∅) (k : declared.Tree) where
+  pub root-T : k ≡ declared.Tree.T → TVisit P s s′ a r → r ≡ tree P (treeOf k) ∅ ∅ a
+  root-T e v = rw e (between r (tree P T ∅ ∅ a) (v .settled .said-yes) (λ q. ap (λ (X : Set). tree P T ∅ X a) (sym above) ∙ v .settled .said-no q))
+
+  pub root-TU : k ≡ declared.Tree.Tu → TuSearch P s s′ a r → r ≡ tree P (treeOf k) ∅ ∅ a
+  root-TU e v = rw e (between r (tree P TU ∅ ∅ a) (λ q. ap (λ (X : Set). tree P TU ∅ X a) (sym above) ∙ v .said-yes q) (v .said-no))
+
+pub root-visits : {P : Program} {s s′ : State} → Ready P T s 0 → Paid P s s′ 0 → s′ .visits ≤ mostVisits (headCount P)
+root-visits r p = omega (arith, r .room, p .paid)
+
+-- ---- the book's program
+
+module _ (b : Book) (facts : List ℕ) (long : length facts ≡ nWords) where
+  abbrev Q : Program
+  Q = programOf b (setOf facts)
+
+  book-supports : (f : Entry → Bool) (A : ℕ) → supported Q f A ≡ (supported (rulesOf b) f A || setOf facts A)
+  book-supports f A =
+      ap (λ (X : Program). supported X f A) (program-of b (setOf facts)) ∙ supported-facts (rulesOf b) capacity (setOf facts) (member-room facts long) f A
+
+  -- the index of the book supports what the book does
+  module _ (x : Index) (e : x ≡ indexOf b) where
+    abbrev by-index : Program
+    by-index = programBy (x .starts) (x .rules) (b .starts) (b .entries) facts
+
+    same : (f : Entry → Bool) (A : ℕ) → supported by-index f A ≡ supported Q f A
+    same f A =
+        supported-is (x .starts) (x .rules) (b .starts) (b .entries) facts long f A
+        ∙ ap (λ (c : Bool). c || setOf facts A) (ap (λ (y : Index). supported (rulesBy (y .starts) (y .rules) (b .starts) (b .entries) capacity) f A) e ∙ indexed-same (b .heads) (b .starts) (b .entries) _ f A)
+        ∙ sym (book-supports f A)
+
+    pub as-few-visits : (n : ℕ) → n ≤ mostVisits (headCount by-index) → n ≤ mostVisits (headCount Q)
+    unfolding headCount
+    as-few-visits n l =
+        let many : headed by-index ≡ headed Q = fun-ext (same (λ e. true)) in
+        subst (λ (S : Set). n ≤ mostVisits (length (members capacity S))) many l
+
+    -- a question is decided by the tree of its kind, or for `not` by the other kind
+    decides : (k : Tree) (A : ℕ) (r d : Bool) → r ≡ tree by-index (decidedBy k d) ∅ ∅ A → cond d (not r) r ≡ answer Q k (questionOf A d)
+    decides k A r false q = q ∙ sym (answer-is by-index k (positive A) ∙ plain k) ∙ answer-same Q by-index same k (positive A)
+      where
+        plain : (k : Tree) → child (tree by-index) k ∅ ∅ (positive A) ≡ tree by-index k ∅ ∅ A
+        plain T = refl
+        plain TU = refl
+    decides T A r true q = ap not q ∙ sym (answer-is by-index T (default A) ∙ first-way by-index ∅ ∅ A) ∙ answer-same Q by-index same T (default A)
+    decides TU A r true q = ap not q ∙ sym (answer-is by-index TU (default A)) ∙ answer-same Q by-index same TU (default A)
+
+    module _ (k j : Tree) (A : ℕ) (r d : Bool) (q : r ≡ tree by-index j ∅ ∅ A) (kind : j ≡ decidedBy k d) where
+      decided : cond d (not r) r ≡ answer Q k (questionOf A d)
+      decided = decides k A r d (q ∙ ap (λ (i : Tree). tree by-index i ∅ ∅ A) kind)
+
+      pub decided-not : d ≡ true → not r ≡ answer Q k (questionOf A d)
+      decided-not e = sym (ap (λ (c : Bool). cond c (not r) r) e) ∙ decided
+
+      pub decided-plain : d ≡ false → r ≡ answer Q k (questionOf A d)
+      decided-plain e = sym (ap (λ (c : Bool). cond c (not r) r) e) ∙ decided
+
+  -- a literal past the capacity fails, and `not` of it holds
+  pub past-capacity : (A : ℕ) → capacity ≤ A → (k : Tree) (d : Bool) → d ≡ answer Q k (questionOf A d)
+  past-capacity A h = go
+    where
+      none : A ∉ headed Q
+      none =
+          book-supports (λ e. true) A
+          ∙ or-none _ _ (past-unsupported (b .heads) (b .starts) (b .entries) _ (λ e. true) A h) (refuted (λ m. let l : A < capacity = member-room facts long A m in omega arith))
+
+      go : (k : Tree) (d : Bool) → d ≡ answer Q k (questionOf A d)
+      go T false = sym (answer-is Q T (positive A) ∙ t-headless Q ∅ A none)
+      go T true = sym (answer-is Q T (default A) ∙ first-way Q ∅ ∅ A ∙ ap not (u-headless Q ∅ ∅ A none))
+      go TU false = sym (answer-is Q TU (positive A) ∙ u-headless Q ∅ ∅ A none)
+      go TU true = sym (answer-is Q TU (default A) ∙ ap not (t-headless Q ∅ A none))
