@@ -144,7 +144,7 @@ pub record TuVisit (P : Program) (s s′ : State) (a : ℕ) (f : Finding) : Type
   pub visited : Visited P TU s s′ (tree P TU ∅ (aboveIn (s .t)) a) (tree P TU (pathIn (s .u)) ∅ a) f
   pub shuts-none : f ≡ Finding.Holds → shutIn (s′ .u) ⊆ shutIn (s .u)
 
--- what a child is said to be: where it holds, and where it fails
+-- the answers that a child's is between: where it is said to hold, and where it is not said to fail
 unfoldable pub sureAt : Program → Tree → State → Entry → Bool
 sureAt P T s = child (tree P) T ∅ ∅
 sureAt P TU s = child (tree P) TU ∅ (aboveIn (s .t))
@@ -152,3 +152,7 @@ sureAt P TU s = child (tree P) TU ∅ (aboveIn (s .t))
 unfoldable pub mayAt : Program → Tree → State → Entry → Bool
 mayAt P T s = child (tree P) T ∅ (aboveIn (s .t))
 mayAt P TU s = child (tree P) TU (pathIn (s .u)) ∅
+
+-- what is asked of the children's answers: one child, all of a body, or all of some rule's body
+abbrev pub Asked : Program → Tree → (s s′ : State) → ((Entry → Bool) → Bool) → Finding → Type 0
+Asked P k s s′ ask f = Visited P k s s′ (ask (sureAt P k s)) (ask (mayAt P k s)) f

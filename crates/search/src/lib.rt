@@ -12,7 +12,7 @@ ghost use Rattle.book.specs.Book.{entryIs, literalIn, bodyOf, programOf};
 ghost use Rattle.index.specs.Index.{supportedBy};
 ghost use Rattle.search.specs.Questions.{treeOf, questionOf, decidedBy};
 ghost use Rattle.search.specs.Marks.{aboveIn, outsideMarked, turned, turnedIn, tLeft, heldLeft, uLeft, isHolds, isFails, found, leafSays};
-ghost use Rattle.search.specs.Walk.{programBy, headIn, state, headCount, mostVisits, Ready, Visited, TVisit, TuVisit, TuSearch, sureAt, mayAt};
+ghost use Rattle.search.specs.Walk.{programBy, headIn, state, headCount, mostVisits, Ready, TVisit, TuVisit, TuSearch, Asked};
 use book::Book;
 use book::Entry;
 use index::Index;
@@ -113,7 +113,7 @@ fn decided_by(tree: Tree, default: bool) -> Tree
 
 // The trees of this kind for a literal, with nothing above them. From here on the tables of the book are lent, and not copied.
 fn walk<'a>(
-    firsts: &'a [u16],
+    first: &'a [u16],
     rules: &'a [u16],
     starts: &'a [u16],
     entries: &'a [u16],
@@ -122,20 +122,20 @@ fn walk<'a>(
     literal: usize,
 ) -> Counted
     requires { ⌜ literal < capacity ⌝ }
-    ensures { λ r. ⌜ (r .holds ≡ tree (programBy (now (firsts .entry)) (now (rules .entry)) (now (starts .entry)) (now (entries .entry)) (facts .words)) (treeOf kind) ∅ ∅ literal)
-        × (r .visits ≤ mostVisits (headCount (programBy (now (firsts .entry)) (now (rules .entry)) (now (starts .entry)) (now (entries .entry)) (facts .words)))) ⌝ }
+    ensures { λ r. ⌜ (r .holds ≡ tree (programBy (now (first .entry)) (now (rules .entry)) (now (starts .entry)) (now (entries .entry)) (facts .words)) (treeOf kind) ∅ ∅ literal)
+        × (r .visits ≤ mostVisits (headCount (programBy (now (first .entry)) (now (rules .entry)) (now (starts .entry)) (now (entries .entry)) (facts .words)))) ⌝ }
 {
-    let mut in_t = headless(firsts, rules, facts, NEVER);
-    let mut in_tu = headless(firsts, rules, facts, FALSE);
+    let mut t = headless(first, rules, facts, NEVER);
+    let mut tu = headless(first, rules, facts, FALSE);
     let mut visits: usize = 0;
     let holds = root(
-        firsts,
+        first,
         rules,
         starts,
         entries,
         facts,
-        &mut in_t,
-        &mut in_tu,
+        &mut t,
+        &mut tu,
         &mut visits,
         kind,
         literal,
@@ -145,48 +145,28 @@ fn walk<'a>(
 
 // The trees for a literal, over tables in which nothing stands above it.
 fn root<'a>(
-    firsts: &'a [u16],
+    first: &'a [u16],
     rules: &'a [u16],
     starts: &'a [u16],
     entries: &'a [u16],
     facts: LitSet,
-    in_t: &mut [u8; litset::CAPACITY],
-    in_tu: &mut [u8; litset::CAPACITY],
+    t: &mut [u8; litset::CAPACITY],
+    tu: &mut [u8; litset::CAPACITY],
     visits: &mut usize,
     kind: Tree,
     a: usize,
 ) -> bool
-    requires { ⌜ (a < capacity) × (Ready (programBy (now firsts) (now rules) (now starts) (now entries) (facts .words)) T
-        (state (now «in_t») (now «in_tu») (now visits)) 0 × (aboveIn (now «in_t») ≡ ∅)) ⌝ }
-    ensures { λ r. ⌜ (r ≡ tree (programBy (now (firsts .entry)) (now (rules .entry)) (now (starts .entry)) (now (entries .entry)) (facts .words)) (treeOf kind) ∅ ∅ a)
-        × (now (visits .exit) ≤ mostVisits (headCount (programBy (now (firsts .entry)) (now (rules .entry)) (now (starts .entry)) (now (entries .entry)) (facts .words)))) ⌝ }
+    requires { ⌜ (a < capacity) × (Ready (programBy (now first) (now rules) (now starts) (now entries) (facts .words)) T
+        (state (now t) (now tu) (now visits)) 0 × (aboveIn (now t) ≡ ∅)) ⌝ }
+    ensures { λ r. ⌜ (r ≡ tree (programBy (now (first .entry)) (now (rules .entry)) (now (starts .entry)) (now (entries .entry)) (facts .words)) (treeOf kind) ∅ ∅ a)
+        × (now (visits .exit) ≤ mostVisits (headCount (programBy (now (first .entry)) (now (rules .entry)) (now (starts .entry)) (now (entries .entry)) (facts .words)))) ⌝ }
 {
     match kind {
         Tree::T => {
-            return t_node(
-                firsts,
-                rules,
-                starts,
-                entries,
-                facts,
-                in_t,
-                in_tu,
-                visits,
-                a,
-            );
+            return t_node(first, rules, starts, entries, facts, t, tu, visits, a);
         }
         Tree::Tu => {
-            return tu_search(
-                firsts,
-                rules,
-                starts,
-                entries,
-                facts,
-                in_t,
-                in_tu,
-                visits,
-                a,
-            );
+            return tu_search(first, rules, starts, entries, facts, t, tu, visits, a);
         }
     }
 }
@@ -195,17 +175,17 @@ fn root<'a>(
 
 // A table with this mark at every literal that is no head: it fails, whatever stands above it, and nothing is opened for it.
 fn headless<'a>(
-    firsts: &'a [u16],
+    first: &'a [u16],
     rules: &'a [u16],
     facts: LitSet,
     mark: u8,
 ) -> [u8; litset::CAPACITY]
-    ensures { λ r. ⌜ r ≡ outsideMarked mark (headIn (now (firsts .entry)) (now (rules .entry)) (facts .words)) ⌝ }
+    ensures { λ r. ⌜ r ≡ outsideMarked mark (headIn (now (first .entry)) (now (rules .entry)) (facts .words)) ⌝ }
 {
     let mut marks = [0u8; litset::CAPACITY];
     let mut a: usize = 0;
     while a < litset::CAPACITY {
-        marks[a] = mark_unless(is_head(firsts, rules, facts, a), mark);
+        marks[a] = mark_unless(is_head(first, rules, facts, a), mark);
         a += 1;
     }
     marks
@@ -218,13 +198,13 @@ fn mark_unless(known: bool, mark: u8) -> u8
 }
 
 // Whether the literal has a rule or is a fact.
-fn is_head<'a>(firsts: &'a [u16], rules: &'a [u16], facts: LitSet, a: usize) -> bool
-    ensures { λ r. ⌜ r ≡ headIn (now (firsts .entry)) (now (rules .entry)) (facts .words) a ⌝ }
+fn is_head<'a>(first: &'a [u16], rules: &'a [u16], facts: LitSet, a: usize) -> bool
+    ensures { λ r. ⌜ r ≡ headIn (now (first .entry)) (now (rules .entry)) (facts .words) a ⌝ }
 {
     if litset::contains(facts, a) {
         return true;
     }
-    index::rules_start(firsts, a) < index::rules_end(firsts, rules, a)
+    index::rules_start(first, a) < index::rules_end(first, rules, a)
 }
 
 // Each mark `from` of a table becomes `to`.
@@ -291,69 +271,53 @@ fn leaf_says(mark: u8, b: usize) -> Finding
 
 // A node of a T-tree. A literal that fails leaves all that was found below it true, and one that holds is kept for good.
 fn t_node<'a>(
-    firsts: &'a [u16],
+    first: &'a [u16],
     rules: &'a [u16],
     starts: &'a [u16],
     entries: &'a [u16],
     facts: LitSet,
-    in_t: &mut [u8; litset::CAPACITY],
-    in_tu: &mut [u8; litset::CAPACITY],
+    t: &mut [u8; litset::CAPACITY],
+    tu: &mut [u8; litset::CAPACITY],
     visits: &mut usize,
     a: usize,
 ) -> bool
-    requires { ⌜ (a < capacity) × Ready (programBy (now firsts) (now rules) (now starts) (now entries) (facts .words)) T
-        (state (now «in_t») (now «in_tu») (now visits)) (headCount (programBy (now firsts) (now rules) (now starts) (now entries) (facts .words))) ⌝ }
-    ensures { λ r. ⌜ TVisit (programBy (now (firsts .entry)) (now (rules .entry)) (now (starts .entry)) (now (entries .entry)) (facts .words))
-        (state (now («in_t» .entry)) (now («in_tu» .entry)) (now (visits .entry)))
-        (state (now («in_t» .exit)) (now («in_tu» .exit)) (now (visits .exit))) a r ⌝ }
+    requires { ⌜ (a < capacity) × Ready (programBy (now first) (now rules) (now starts) (now entries) (facts .words)) T
+        (state (now t) (now tu) (now visits)) (headCount (programBy (now first) (now rules) (now starts) (now entries) (facts .words))) ⌝ }
+    ensures { λ r. ⌜ TVisit (programBy (now (first .entry)) (now (rules .entry)) (now (starts .entry)) (now (entries .entry)) (facts .words))
+        (state (now (t .entry)) (now (tu .entry)) (now (visits .entry))) (state (now (t .exit)) (now (tu .exit)) (now (visits .exit))) a r ⌝ }
 {
-    let known = in_t[a];
+    let known = t[a];
     if known != 0 {
         return known == PROVED;
     }
     if litset::contains(facts, a) {
-        in_t[a] = PROVED;
+        t[a] = PROVED;
         return true;
     }
     *visits += 1;
-    in_t[a] = ABOVE;
-    let f = some_rule(
-        firsts,
-        rules,
-        starts,
-        entries,
-        facts,
-        in_t,
-        in_tu,
-        visits,
-        Tree::T,
-        a,
-    );
-    leave_t(in_t, in_tu, a, f);
+    t[a] = ABOVE;
+    let kind = Tree::T;
+    let f = some_rule(first, rules, starts, entries, facts, t, tu, visits, kind, a);
+    leave_t(t, tu, a, f);
     holds(f)
 }
 
 // The node of a T-tree is left: its literal is no ancestor any more. Where it holds, what failed or was held below it may not be so above it.
-fn leave_t(
-    in_t: &mut [u8; litset::CAPACITY],
-    in_tu: &mut [u8; litset::CAPACITY],
-    a: usize,
-    f: Finding,
-)
-    requires { ⌜ (a < capacity) × ((length (now «in_t») ≡ capacity) × (length (now «in_tu») ≡ capacity)) ⌝ }
-    ensures { λ r. ⌜ (now («in_t» .exit) ≡ tLeft f a (now («in_t» .entry))) × (now («in_tu» .exit) ≡ heldLeft f (now («in_tu» .entry))) ⌝ }
+fn leave_t(t: &mut [u8; litset::CAPACITY], tu: &mut [u8; litset::CAPACITY], a: usize, f: Finding)
+    requires { ⌜ (a < capacity) × ((length (now t) ≡ capacity) × (length (now tu) ≡ capacity)) ⌝ }
+    ensures { λ r. ⌜ (now (t .exit) ≡ tLeft f a (now (t .entry))) × (now (tu .exit) ≡ heldLeft f (now (tu .entry))) ⌝ }
 {
     match f {
         Finding::Holds => {
-            turn(in_t, FAILED, 0);
-            turn(in_tu, HELD, 0);
-            in_t[a] = PROVED;
+            turn(t, FAILED, 0);
+            turn(tu, HELD, 0);
+            t[a] = PROVED;
         }
         Finding::Fails => {
-            in_t[a] = FAILED;
+            t[a] = FAILED;
         }
         Finding::Waits(_) => {
-            in_t[a] = FAILED;
+            t[a] = FAILED;
         }
     }
 }
@@ -363,55 +327,34 @@ fn leave_t(
 // The TU-trees for a literal. A T-tree that one of them waits for is opened from here, and the walk begun again with what is then known: so no TU-tree
 // stands above a T-tree, and the stack is linear in the literals.
 fn tu_search<'a>(
-    firsts: &'a [u16],
+    first: &'a [u16],
     rules: &'a [u16],
     starts: &'a [u16],
     entries: &'a [u16],
     facts: LitSet,
-    in_t: &mut [u8; litset::CAPACITY],
-    in_tu: &mut [u8; litset::CAPACITY],
+    t: &mut [u8; litset::CAPACITY],
+    tu: &mut [u8; litset::CAPACITY],
     visits: &mut usize,
     a: usize,
 ) -> bool
-    requires { ⌜ (a < capacity) × Ready (programBy (now firsts) (now rules) (now starts) (now entries) (facts .words)) T
-        (state (now «in_t») (now «in_tu») (now visits)) 0 ⌝ }
-    ensures { λ r. ⌜ TuSearch (programBy (now (firsts .entry)) (now (rules .entry)) (now (starts .entry)) (now (entries .entry)) (facts .words))
-        (state (now («in_t» .entry)) (now («in_tu» .entry)) (now (visits .entry)))
-        (state (now («in_t» .exit)) (now («in_tu» .exit)) (now (visits .exit))) a r ⌝ }
+    requires { ⌜ (a < capacity) × Ready (programBy (now first) (now rules) (now starts) (now entries) (facts .words)) T
+        (state (now t) (now tu) (now visits)) 0 ⌝ }
+    ensures { λ r. ⌜ TuSearch (programBy (now (first .entry)) (now (rules .entry)) (now (starts .entry)) (now (entries .entry)) (facts .words))
+        (state (now (t .entry)) (now (tu .entry)) (now (visits .entry))) (state (now (t .exit)) (now (tu .exit)) (now (visits .exit))) a r ⌝ }
 {
     loop {
-        let f = tu_node(
-            firsts,
-            rules,
-            starts,
-            entries,
-            facts,
-            in_t,
-            in_tu,
-            visits,
-            a,
-        );
+        let f = tu_node(first, rules, starts, entries, facts, t, tu, visits, a);
         match f {
             Finding::Holds => {
                 return true;
             }
             Finding::Fails => {
-                turn(in_tu, SHUT, FALSE);
+                turn(tu, SHUT, FALSE);
                 return false;
             }
             Finding::Waits(l) => {
-                turn(in_tu, SHUT, 0);
-                t_node(
-                    firsts,
-                    rules,
-                    starts,
-                    entries,
-                    facts,
-                    in_t,
-                    in_tu,
-                    visits,
-                    l,
-                );
+                turn(tu, SHUT, 0);
+                t_node(first, rules, starts, entries, facts, t, tu, visits, l);
             }
         }
     }
@@ -419,28 +362,27 @@ fn tu_search<'a>(
 
 // A node of a TU-tree. The added leaf, `not` of the complement, is asked for once and not under each rule (`complement-once`).
 fn tu_node<'a>(
-    firsts: &'a [u16],
+    first: &'a [u16],
     rules: &'a [u16],
     starts: &'a [u16],
     entries: &'a [u16],
     facts: LitSet,
-    in_t: &mut [u8; litset::CAPACITY],
-    in_tu: &mut [u8; litset::CAPACITY],
+    t: &mut [u8; litset::CAPACITY],
+    tu: &mut [u8; litset::CAPACITY],
     visits: &mut usize,
     a: usize,
 ) -> Finding
-    requires { ⌜ (a < capacity) × Ready (programBy (now firsts) (now rules) (now starts) (now entries) (facts .words)) TU
-        (state (now «in_t») (now «in_tu») (now visits)) 0 ⌝ }
-    ensures { λ r. ⌜ TuVisit (programBy (now (firsts .entry)) (now (rules .entry)) (now (starts .entry)) (now (entries .entry)) (facts .words))
-        (state (now («in_t» .entry)) (now («in_tu» .entry)) (now (visits .entry)))
-        (state (now («in_t» .exit)) (now («in_tu» .exit)) (now (visits .exit))) a r ⌝ }
+    requires { ⌜ (a < capacity) × Ready (programBy (now first) (now rules) (now starts) (now entries) (facts .words)) TU
+        (state (now t) (now tu) (now visits)) 0 ⌝ }
+    ensures { λ r. ⌜ TuVisit (programBy (now (first .entry)) (now (rules .entry)) (now (starts .entry)) (now (entries .entry)) (facts .words))
+        (state (now (t .entry)) (now (tu .entry)) (now (visits .entry))) (state (now (t .exit)) (now (tu .exit)) (now (visits .exit))) a r ⌝ }
 {
-    let known = in_tu[a];
+    let known = tu[a];
     if known != 0 {
         return found(known == HELD);
     }
     let other = litset::complement(a);
-    let leaf = leaf_says(in_t[other], other);
+    let leaf = leaf_says(t[other], other);
     if !holds(leaf) {
         return leaf;
     }
@@ -448,38 +390,28 @@ fn tu_node<'a>(
         return Finding::Holds;
     }
     *visits += 1;
-    in_tu[a] = PATH;
-    let f = some_rule(
-        firsts,
-        rules,
-        starts,
-        entries,
-        facts,
-        in_t,
-        in_tu,
-        visits,
-        Tree::Tu,
-        a,
-    );
-    leave_tu(in_tu, a, f);
+    tu[a] = PATH;
+    let kind = Tree::Tu;
+    let f = some_rule(first, rules, starts, entries, facts, t, tu, visits, kind, a);
+    leave_tu(tu, a, f);
     f
 }
 
 // The node of a TU-tree is left: its literal is not on the path any more. Where it holds, what failed below it may not fail above it.
-fn leave_tu(in_tu: &mut [u8; litset::CAPACITY], a: usize, f: Finding)
-    requires { ⌜ (a < capacity) × (length (now «in_tu») ≡ capacity) ⌝ }
-    ensures { λ r. ⌜ now («in_tu» .exit) ≡ uLeft f a (now («in_tu» .entry)) ⌝ }
+fn leave_tu(tu: &mut [u8; litset::CAPACITY], a: usize, f: Finding)
+    requires { ⌜ (a < capacity) × (length (now tu) ≡ capacity) ⌝ }
+    ensures { λ r. ⌜ now (tu .exit) ≡ uLeft f a (now (tu .entry)) ⌝ }
 {
     match f {
         Finding::Holds => {
-            turn(in_tu, SHUT, 0);
-            in_tu[a] = HELD;
+            turn(tu, SHUT, 0);
+            tu[a] = HELD;
         }
         Finding::Fails => {
-            in_tu[a] = SHUT;
+            tu[a] = SHUT;
         }
         Finding::Waits(_) => {
-            in_tu[a] = 0;
+            tu[a] = 0;
         }
     }
 }
@@ -488,43 +420,28 @@ fn leave_tu(in_tu: &mut [u8; litset::CAPACITY], a: usize, f: Finding)
 
 // Whether all children under some rule for `a` hold.
 fn some_rule<'a>(
-    firsts: &'a [u16],
+    first: &'a [u16],
     rules: &'a [u16],
     starts: &'a [u16],
     entries: &'a [u16],
     facts: LitSet,
-    in_t: &mut [u8; litset::CAPACITY],
-    in_tu: &mut [u8; litset::CAPACITY],
+    t: &mut [u8; litset::CAPACITY],
+    tu: &mut [u8; litset::CAPACITY],
     visits: &mut usize,
     kind: Tree,
     a: usize,
 ) -> Finding
-    requires { ⌜ Ready (programBy (now firsts) (now rules) (now starts) (now entries) (facts .words)) (treeOf kind)
-        (state (now «in_t») (now «in_tu») (now visits)) 0 ⌝ }
-    ensures { λ r. ⌜ Visited (programBy (now (firsts .entry)) (now (rules .entry)) (now (starts .entry)) (now (entries .entry)) (facts .words)) (treeOf kind)
-        (state (now («in_t» .entry)) (now («in_tu» .entry)) (now (visits .entry)))
-        (state (now («in_t» .exit)) (now («in_tu» .exit)) (now (visits .exit)))
-        (supportedBy (now (firsts .entry)) (now (rules .entry)) (now (starts .entry)) (now (entries .entry))
-        (sureAt (programBy (now (firsts .entry)) (now (rules .entry)) (now (starts .entry)) (now (entries .entry)) (facts .words)) (treeOf kind) (state (now («in_t» .entry)) (now («in_tu» .entry)) (now (visits .entry)))) a)
-        (supportedBy (now (firsts .entry)) (now (rules .entry)) (now (starts .entry)) (now (entries .entry))
-        (mayAt (programBy (now (firsts .entry)) (now (rules .entry)) (now (starts .entry)) (now (entries .entry)) (facts .words)) (treeOf kind) (state (now («in_t» .entry)) (now («in_tu» .entry)) (now (visits .entry)))) a) r ⌝ }
+    requires { ⌜ Ready (programBy (now first) (now rules) (now starts) (now entries) (facts .words)) (treeOf kind)
+        (state (now t) (now tu) (now visits)) 0 ⌝ }
+    ensures { λ r. ⌜ Asked (programBy (now (first .entry)) (now (rules .entry)) (now (starts .entry)) (now (entries .entry)) (facts .words)) (treeOf kind)
+        (state (now (t .entry)) (now (tu .entry)) (now (visits .entry))) (state (now (t .exit)) (now (tu .exit)) (now (visits .exit)))
+        (λ test. supportedBy (now (first .entry)) (now (rules .entry)) (now (starts .entry)) (now (entries .entry)) test a) r ⌝ }
 {
-    let end = index::rules_end(firsts, rules, a);
-    let mut p = index::rules_start(firsts, a);
+    let end = index::rules_end(first, rules, a);
+    let mut p = index::rules_start(first, a);
     while p < end {
         let i = index::rule_at(rules, p);
-        let f = all_children(
-            firsts,
-            rules,
-            starts,
-            entries,
-            facts,
-            in_t,
-            in_tu,
-            visits,
-            kind,
-            i,
-        );
+        let f = all_children(first, rules, starts, entries, facts, t, tu, visits, kind, i);
         if !fails(f) {
             return f;
         }
@@ -535,40 +452,28 @@ fn some_rule<'a>(
 
 // Whether all children under rule `i` hold.
 fn all_children<'a>(
-    firsts: &'a [u16],
+    first: &'a [u16],
     rules: &'a [u16],
     starts: &'a [u16],
     entries: &'a [u16],
     facts: LitSet,
-    in_t: &mut [u8; litset::CAPACITY],
-    in_tu: &mut [u8; litset::CAPACITY],
+    t: &mut [u8; litset::CAPACITY],
+    tu: &mut [u8; litset::CAPACITY],
     visits: &mut usize,
     kind: Tree,
     i: usize,
 ) -> Finding
-    requires { ⌜ Ready (programBy (now firsts) (now rules) (now starts) (now entries) (facts .words)) (treeOf kind)
-        (state (now «in_t») (now «in_tu») (now visits)) 0 ⌝ }
-    ensures { λ r. ⌜ Visited (programBy (now (firsts .entry)) (now (rules .entry)) (now (starts .entry)) (now (entries .entry)) (facts .words)) (treeOf kind)
-        (state (now («in_t» .entry)) (now («in_tu» .entry)) (now (visits .entry)))
-        (state (now («in_t» .exit)) (now («in_tu» .exit)) (now (visits .exit)))
-        (every (sureAt (programBy (now (firsts .entry)) (now (rules .entry)) (now (starts .entry)) (now (entries .entry)) (facts .words)) (treeOf kind) (state (now («in_t» .entry)) (now («in_tu» .entry)) (now (visits .entry)))) (bodyOf (now (starts .entry)) (now (entries .entry)) i))
-        (every (mayAt (programBy (now (firsts .entry)) (now (rules .entry)) (now (starts .entry)) (now (entries .entry)) (facts .words)) (treeOf kind) (state (now («in_t» .entry)) (now («in_tu» .entry)) (now (visits .entry)))) (bodyOf (now (starts .entry)) (now (entries .entry)) i)) r ⌝ }
+    requires { ⌜ Ready (programBy (now first) (now rules) (now starts) (now entries) (facts .words)) (treeOf kind)
+        (state (now t) (now tu) (now visits)) 0 ⌝ }
+    ensures { λ r. ⌜ Asked (programBy (now (first .entry)) (now (rules .entry)) (now (starts .entry)) (now (entries .entry)) (facts .words)) (treeOf kind)
+        (state (now (t .entry)) (now (tu .entry)) (now (visits .entry))) (state (now (t .exit)) (now (tu .exit)) (now (visits .exit)))
+        (λ test. every test (bodyOf (now (starts .entry)) (now (entries .entry)) i)) r ⌝ }
 {
     let end = book::body_end(starts, entries, i);
     let mut j = book::body_start(starts, i);
     while j < end {
-        let f = child(
-            firsts,
-            rules,
-            starts,
-            entries,
-            facts,
-            in_t,
-            in_tu,
-            visits,
-            kind,
-            book::entry_at(entries, j),
-        );
+        let e = book::entry_at(entries, j);
+        let f = child(first, rules, starts, entries, facts, t, tu, visits, kind, e);
         if !holds(f) {
             return f;
         }
@@ -580,72 +485,40 @@ fn all_children<'a>(
 // A child of a node. In a T-tree the second way of a leaf, a T-tree for the complement, is left out: it follows from the first (`first-way`). A leaf of a
 // TU-tree opens nothing itself.
 fn child<'a>(
-    firsts: &'a [u16],
+    first: &'a [u16],
     rules: &'a [u16],
     starts: &'a [u16],
     entries: &'a [u16],
     facts: LitSet,
-    in_t: &mut [u8; litset::CAPACITY],
-    in_tu: &mut [u8; litset::CAPACITY],
+    t: &mut [u8; litset::CAPACITY],
+    tu: &mut [u8; litset::CAPACITY],
     visits: &mut usize,
     kind: Tree,
     e: Entry,
 ) -> Finding
-    requires { ⌜ (literalIn (entryIs e) < capacity) × Ready (programBy (now firsts) (now rules) (now starts) (now entries) (facts .words)) (treeOf kind)
-        (state (now «in_t») (now «in_tu») (now visits)) 0 ⌝ }
-    ensures { λ r. ⌜ Visited (programBy (now (firsts .entry)) (now (rules .entry)) (now (starts .entry)) (now (entries .entry)) (facts .words)) (treeOf kind)
-        (state (now («in_t» .entry)) (now («in_tu» .entry)) (now (visits .entry)))
-        (state (now («in_t» .exit)) (now («in_tu» .exit)) (now (visits .exit)))
-        (sureAt (programBy (now (firsts .entry)) (now (rules .entry)) (now (starts .entry)) (now (entries .entry)) (facts .words)) (treeOf kind) (state (now («in_t» .entry)) (now («in_tu» .entry)) (now (visits .entry))) (entryIs e))
-        (mayAt (programBy (now (firsts .entry)) (now (rules .entry)) (now (starts .entry)) (now (entries .entry)) (facts .words)) (treeOf kind) (state (now («in_t» .entry)) (now («in_tu» .entry)) (now (visits .entry))) (entryIs e)) r ⌝ }
+    requires { ⌜ (literalIn (entryIs e) < capacity) × Ready (programBy (now first) (now rules) (now starts) (now entries) (facts .words)) (treeOf kind)
+        (state (now t) (now tu) (now visits)) 0 ⌝ }
+    ensures { λ r. ⌜ Asked (programBy (now (first .entry)) (now (rules .entry)) (now (starts .entry)) (now (entries .entry)) (facts .words)) (treeOf kind)
+        (state (now (t .entry)) (now (tu .entry)) (now (visits .entry))) (state (now (t .exit)) (now (tu .exit)) (now (visits .exit)))
+        (λ test. test (entryIs e)) r ⌝ }
 {
     match e {
         Entry::Positive(b) => match kind {
             Tree::T => {
-                return found(t_node(
-                    firsts,
-                    rules,
-                    starts,
-                    entries,
-                    facts,
-                    in_t,
-                    in_tu,
-                    visits,
-                    b,
-                ));
+                let holds = t_node(first, rules, starts, entries, facts, t, tu, visits, b);
+                return found(holds);
             }
             Tree::Tu => {
-                return tu_node(
-                    firsts,
-                    rules,
-                    starts,
-                    entries,
-                    facts,
-                    in_t,
-                    in_tu,
-                    visits,
-                    b,
-                );
+                return tu_node(first, rules, starts, entries, facts, t, tu, visits, b);
             }
         },
         Entry::Default(b) => match kind {
             Tree::T => {
-                return found(
-                    !tu_search(
-                        firsts,
-                        rules,
-                        starts,
-                        entries,
-                        facts,
-                        in_t,
-                        in_tu,
-                        visits,
-                        b,
-                    ),
-                );
+                let holds = tu_search(first, rules, starts, entries, facts, t, tu, visits, b);
+                return found(!holds);
             }
             Tree::Tu => {
-                return leaf_says(in_t[b], b);
+                return leaf_says(t[b], b);
             }
         },
     }

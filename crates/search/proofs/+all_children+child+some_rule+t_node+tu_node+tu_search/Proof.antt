@@ -129,12 +129,12 @@ tu-search-below t =
     and 4 tu-search-kinds.ps (falls 4 tu-search-kinds.ps _<_ μ-tu-search t) tu-search.Pre
 
 abbrev all-children-Inv-loop : all-children-lts.InvT-loop
-all-children-Inv-loop firsts rules starts entries facts in-t₀ in-tu₀ visits₀ kind i end j₀ in-t in-tu visits j =
-    Going (programBy firsts rules starts entries (facts .words)) (treeOf kind) (state in-t₀ in-tu₀ visits₀) (state in-t in-tu visits)
-    × BodyLeft (sureAt (programBy firsts rules starts entries (facts .words)) (treeOf kind) (state in-t₀ in-tu₀ visits₀)) starts entries i j
+all-children-Inv-loop first rules starts entries facts t₀ tu₀ visits₀ kind i end j₀ t tu visits j =
+    Going (programBy first rules starts entries (facts .words)) (treeOf kind) (state t₀ tu₀ visits₀) (state t tu visits)
+    × BodyLeft (sureAt (programBy first rules starts entries (facts .words)) (treeOf kind) (state t₀ tu₀ visits₀)) starts entries i j
 
 abbrev all-children-μ-loop : all-children-lts.MeasureT-loop
-all-children-μ-loop firsts rules starts entries facts in-t₀ in-tu₀ visits₀ kind i end j₀ in-t in-tu visits j =
+all-children-μ-loop first rules starts entries facts t₀ tu₀ visits₀ kind i end j₀ t tu visits j =
     end - j
 
 abbrev all-children-claims : ℕ → all-children-lts.Claims
@@ -160,10 +160,9 @@ all-children-entry-at-requires t c κs = search needs
 all-children-child-requires : (t : ℕ) → all-children-lts.Need-child-requires (all-children-claims t) (all-children-at t) all-children.Post all-children-Inv-loop all-children-μ-loop
 all-children-child-requires t c κs =
     let start = c .before .before .before .before .before .before .before .before .before .before .before .before in
-    let inv = c .before .before .before .before .before .loop .inv in (
-      omega (arith, start .pre .0, child-size-same (start .pre .1 .tables) (inv .0 .walked) (treeOf (start .args .kind))),
-      (entry-small (start .args .entries .now) (c .before .before .before .before .before .loop .j) (c .entry-at .result) (c .entry-at .ensures), going-ready (start .pre .1) (inv .0)),
-    )
+    let inv = c .before .before .before .before .before .loop .inv in
+    (omega (arith, start .pre .0, child-size-same (start .pre .1 .tables) (inv .0 .walked) (treeOf (start .args .kind))),
+    (entry-small (start .args .entries .now) (c .before .before .before .before .before .loop .j) (c .before .before .before .entry-at .result) (c .before .before .before .entry-at .ensures), going-ready (start .pre .1) (inv .0)))
 
 all-children-holds-requires : (t : ℕ) → all-children-lts.Need-holds-requires (all-children-claims t) (all-children-at t) all-children.Post all-children-Inv-loop all-children-μ-loop
 all-children-holds-requires t c κs = search needs
@@ -171,7 +170,7 @@ all-children-holds-requires t c κs = search needs
 all-children-returns : (t : ℕ) → all-children-lts.Need-returns (all-children-claims t) (all-children-at t) all-children.Post all-children-Inv-loop all-children-μ-loop
 all-children-returns t c =
     let inv = c .before .before .before .before .before .before .before .before .loop .inv in
-    body-ends (inv .0) (inv .1) (all-children-in t (c .before .before .before .before .before .before .before)) (c .before .before .before .entry-at .result) (c .before .before .before .entry-at .ensures) _ (c .before .before .child .ensures)
+    body-ends (inv .0) (inv .1) (all-children-in t (c .before .before .before .before .before .before .before)) (c .before .before .before .before .before .before .entry-at .result) (c .before .before .before .before .before .before .entry-at .ensures) _ (c .before .before .child .ensures)
     (sym (c .before .holds .ensures) ∙ not-true _ (c .if1 .taken))
 
 all-children-add-j : (t : ℕ) → all-children-lts.Need-add-j (all-children-claims t) (all-children-at t) all-children.Post all-children-Inv-loop all-children-μ-loop
@@ -183,7 +182,7 @@ all-children-loop-less t c = search needs
 all-children-loop-again : (t : ℕ) → all-children-lts.Need-loop-again (all-children-claims t) (all-children-at t) all-children.Post all-children-Inv-loop all-children-μ-loop
 all-children-loop-again t c =
     let inv = c .before .before .before .before .before .before .before .before .loop .inv in
-    body-goes-on (inv .0) (inv .1) (all-children-in t (c .before .before .before .before .before .before .before)) (c .before .before .before .entry-at .result) (c .before .before .before .entry-at .ensures) _ (c .before .before .child .ensures)
+    body-goes-on (inv .0) (inv .1) (all-children-in t (c .before .before .before .before .before .before .before)) (c .before .before .before .before .before .before .entry-at .result) (c .before .before .before .before .before .before .entry-at .ensures) _ (c .before .before .child .ensures)
     (sym (c .before .holds .ensures) ∙ not-false _ (c .if1 .left))
 
 all-children-returns-2 : (t : ℕ) → all-children-lts.Need-returns-2 (all-children-claims t) (all-children-at t) all-children.Post all-children-Inv-loop all-children-μ-loop
@@ -260,12 +259,12 @@ child-returns-4 t c =
     rw (c .leaf-says .ensures) (TU-default _ _ _ (c .before .before .enum-told4 .given .1) entry (default-small _ _ entry (start .pre .1 .0)) (start .pre .1 .1))
 
 abbrev some-rule-Inv-loop : some-rule-lts.InvT-loop
-some-rule-Inv-loop firsts rules starts entries facts in-t₀ in-tu₀ visits₀ kind a end p₀ in-t in-tu visits p =
-    Going (programBy firsts rules starts entries (facts .words)) (treeOf kind) (state in-t₀ in-tu₀ visits₀) (state in-t in-tu visits)
-    × RulesLeft (mayAt (programBy firsts rules starts entries (facts .words)) (treeOf kind) (state in-t₀ in-tu₀ visits₀)) firsts rules starts entries a p
+some-rule-Inv-loop first rules starts entries facts t₀ tu₀ visits₀ kind a end p₀ t tu visits p =
+    Going (programBy first rules starts entries (facts .words)) (treeOf kind) (state t₀ tu₀ visits₀) (state t tu visits)
+    × RulesLeft (mayAt (programBy first rules starts entries (facts .words)) (treeOf kind) (state t₀ tu₀ visits₀)) first rules starts entries a p
 
 abbrev some-rule-μ-loop : some-rule-lts.MeasureT-loop
-some-rule-μ-loop firsts rules starts entries facts in-t₀ in-tu₀ visits₀ kind a end p₀ in-t in-tu visits p =
+some-rule-μ-loop first rules starts entries facts t₀ tu₀ visits₀ kind a end p₀ t tu visits p =
     end - p
 
 abbrev some-rule-claims : ℕ → some-rule-lts.Claims
@@ -273,7 +272,7 @@ some-rule-claims t = (rules-end-reads.Asked, rules-end-reads.Learnt, rules-start
 
 -- in the loop the place is one of the literal's rules
 some-rule-in : (t : ℕ) (q : some-rule-lts.In-loop (some-rule-claims t) (some-rule-at t) some-rule.Post some-rule-Inv-loop some-rule-μ-loop)
-    → q .before .loop .p < rulesEnd (q .before .before .before .before .before .before .before .before .args .firsts .now) (q .before .before .before .before .before .before .before .before .args .rules .now) (q .before .before .before .before .before .before .before .before .args .a)
+    → q .before .loop .p < rulesEnd (q .before .before .before .before .before .before .before .before .args .first .now) (q .before .before .before .before .before .before .before .before .args .rules .now) (q .before .before .before .before .before .before .before .before .args .a)
 some-rule-in t q = rw (q .before .before .before .rules-end .ensures) at (q .loop-test .taken)
 
 some-rule-rules-end-requires : (t : ℕ) → some-rule-lts.Need-rules-end-requires (some-rule-claims t) (some-rule-at t) some-rule.Post some-rule-Inv-loop some-rule-μ-loop
@@ -324,10 +323,10 @@ abbrev t-node-claims : ℕ → t-node-lts.Claims
 t-node-claims t = (contains-reads.Asked, contains-reads.Learnt, some-rule-below t, some-rule.Post, leave-t-reads.Asked, leave-t-reads.Learnt, holds-reads.Asked, holds-reads.Learnt)
 
 abbrev t-node-program : (t : ℕ) → t-node-lts.Start (t-node-claims t) (t-node-at t) t-node.Post → Program
-t-node-program t q = (programBy (q .args .firsts .now) (q .args .rules .now) (q .args .starts .now) (q .args .entries .now) (q .args .facts .words))
+t-node-program t q = (programBy (q .args .first .now) (q .args .rules .now) (q .args .starts .now) (q .args .entries .now) (q .args .facts .words))
 
 t-node-joins : (t : ℕ) (q : t-node-lts.Start (t-node-claims t) (t-node-at t) t-node.Post)
-    → Joined (t-node-program t q) (supportedBy (q .args .firsts .now) (q .args .rules .now) (q .args .starts .now) (q .args .entries .now)) (setOf (q .args .facts .words))
+    → Joined (t-node-program t q) (supportedBy (q .args .first .now) (q .args .rules .now) (q .args .starts .now) (q .args .entries .now)) (setOf (q .args .facts .words))
 t-node-joins t q = let long : length (q .args .facts .words) ≡ nWords = search needs in joined-by _ _ _ _ _ long
 
 abbrev t-node-start : (t : ℕ) → t-node-lts.After-known (t-node-claims t) (t-node-at t) t-node.Post → t-node-lts.Start (t-node-claims t) (t-node-at t) t-node.Post
@@ -342,8 +341,8 @@ t-node-returns t c = t-known (c .before .before .before .before .before .before 
 t-node-contains-requires : (t : ℕ) → t-node-lts.Need-contains-requires (t-node-claims t) (t-node-at t) t-node.Post
 t-node-contains-requires t c κs = search needs
 
-t-node-element-write-in-t : (t : ℕ) → t-node-lts.Need-element-write-in-t (t-node-claims t) (t-node-at t) t-node.Post
-t-node-element-write-in-t t c = search needs
+t-node-element-write-t : (t : ℕ) → t-node-lts.Need-element-write-t (t-node-claims t) (t-node-at t) t-node.Post
+t-node-element-write-t t c = search needs
 
 t-node-returns-2 : (t : ℕ) → t-node-lts.Need-returns-2 (t-node-claims t) (t-node-at t) t-node.Post
 t-node-returns-2 t c =
@@ -355,8 +354,8 @@ t-node-add-visits t c =
     let start = c .before .before .before .before .before .before .before .before .before in
     omega (arith, start .pre .1 .1 .room, most-small (t-node-program t start))
 
-t-node-element-write-in-t-2 : (t : ℕ) → t-node-lts.Need-element-write-in-t-2 (t-node-claims t) (t-node-at t) t-node.Post
-t-node-element-write-in-t-2 t c = search needs
+t-node-element-write-t-2 : (t : ℕ) → t-node-lts.Need-element-write-t-2 (t-node-claims t) (t-node-at t) t-node.Post
+t-node-element-write-t-2 t c = search needs
 
 t-node-some-rule-requires : (t : ℕ) → t-node-lts.Need-some-rule-requires (t-node-claims t) (t-node-at t) t-node.Post
 t-node-some-rule-requires t c κs =
@@ -383,10 +382,10 @@ abbrev tu-node-claims : ℕ → tu-node-lts.Claims
 tu-node-claims t = (found-reads.Asked, found-reads.Learnt, complement-reads.Asked, complement-reads.Learnt, leaf-says-reads.Asked, leaf-says-reads.Learnt, holds-reads.Asked, holds-reads.Learnt, contains-reads.Asked, contains-reads.Learnt, some-rule-below t, some-rule.Post, leave-tu-reads.Asked, leave-tu-reads.Learnt)
 
 abbrev tu-node-program : (t : ℕ) → tu-node-lts.Start (tu-node-claims t) (tu-node-at t) tu-node.Post → Program
-tu-node-program t q = (programBy (q .args .firsts .now) (q .args .rules .now) (q .args .starts .now) (q .args .entries .now) (q .args .facts .words))
+tu-node-program t q = (programBy (q .args .first .now) (q .args .rules .now) (q .args .starts .now) (q .args .entries .now) (q .args .facts .words))
 
 tu-node-joins : (t : ℕ) (q : tu-node-lts.Start (tu-node-claims t) (tu-node-at t) tu-node.Post)
-    → Joined (tu-node-program t q) (supportedBy (q .args .firsts .now) (q .args .rules .now) (q .args .starts .now) (q .args .entries .now)) (setOf (q .args .facts .words))
+    → Joined (tu-node-program t q) (supportedBy (q .args .first .now) (q .args .rules .now) (q .args .starts .now) (q .args .entries .now)) (setOf (q .args .facts .words))
 tu-node-joins t q = let long : length (q .args .facts .words) ≡ nWords = search needs in joined-by _ _ _ _ _ long
 
 abbrev tu-node-start : (t : ℕ) → tu-node-lts.Else1 (tu-node-claims t) (tu-node-at t) tu-node.Post → tu-node-lts.Start (tu-node-claims t) (tu-node-at t) tu-node.Post
@@ -394,7 +393,7 @@ tu-node-start t q = q .before .before .before .before .before .before
 
 -- past the leaf it holds
 tu-node-leaf : (t : ℕ) (q : tu-node-lts.Else2 (tu-node-claims t) (tu-node-at t) tu-node.Post)
-    → isHolds (leafSays (getD (q .before .before .before .before .before .before .before .before .before .before .before .args .in-t .now) (q .before .before .before .before .complement .result) 0) (q .before .before .before .before .complement .result)) ≡ true
+    → isHolds (leafSays (getD (q .before .before .before .before .before .before .before .before .before .before .before .args .t .now) (q .before .before .before .before .complement .result) 0) (q .before .before .before .before .complement .result)) ≡ true
 tu-node-leaf t q = ap isHolds (sym (q .before .before .leaf-says .ensures)) ∙ sym (q .before .holds .ensures) ∙ not-false _ (q .if2 .left)
 
 tu-node-element-copy-out-known : (t : ℕ) → tu-node-lts.Need-element-copy-out-known (tu-node-claims t) (tu-node-at t) tu-node.Post
@@ -439,8 +438,8 @@ tu-node-add-visits t c =
     let start = c .before .before .before .before .before .before .before .before .before .before .before .before .before .before in
     omega (arith, start .pre .1 .1 .room, most-small (tu-node-program t start))
 
-tu-node-element-write-in-tu : (t : ℕ) → tu-node-lts.Need-element-write-in-tu (tu-node-claims t) (tu-node-at t) tu-node.Post
-tu-node-element-write-in-tu t c = search needs
+tu-node-element-write-tu : (t : ℕ) → tu-node-lts.Need-element-write-tu (tu-node-claims t) (tu-node-at t) tu-node.Post
+tu-node-element-write-tu t c = search needs
 
 tu-node-some-rule-requires : (t : ℕ) → tu-node-lts.Need-some-rule-requires (tu-node-claims t) (tu-node-at t) tu-node.Post
 tu-node-some-rule-requires t c κs =
@@ -458,12 +457,12 @@ tu-node-returns-4 t c =
     (sym (c .before .before .before .before .before .before .before .before .contains .ensures) ∙ c .before .before .before .before .before .before .before .if3 .left) _ _ _ _ (c .before .before .some-rule .ensures) _ (c .leave-tu .ensures)
 
 abbrev tu-search-Inv-loop : tu-search-lts.InvT-loop
-tu-search-Inv-loop firsts rules starts entries facts in-t₀ in-tu₀ visits₀ a in-t in-tu visits =
-    Going (programBy firsts rules starts entries (facts .words)) T (state in-t₀ in-tu₀ visits₀) (state in-t in-tu visits)
+tu-search-Inv-loop first rules starts entries facts t₀ tu₀ visits₀ a t tu visits =
+    Going (programBy first rules starts entries (facts .words)) T (state t₀ tu₀ visits₀) (state t tu visits)
 
 abbrev tu-search-μ-loop : tu-search-lts.MeasureT-loop
-tu-search-μ-loop firsts rules starts entries facts in-t₀ in-tu₀ visits₀ a in-t in-tu visits =
-    leftIn (programBy firsts rules starts entries (facts .words)) (state in-t in-tu visits)
+tu-search-μ-loop first rules starts entries facts t₀ tu₀ visits₀ a t tu visits =
+    leftIn (programBy first rules starts entries (facts .words)) (state t tu visits)
 
 abbrev tu-search-claims : ℕ → tu-search-lts.Claims
 tu-search-claims t = (tu-node-below t, tu-node.Post, turn-reads.Asked, turn-reads.Learnt, t-node-below t, t-node.Post)
@@ -637,10 +636,10 @@ pub +all-children+child+some-rule+t-node+tu-node+tu-search-spec : {M : Type 1} �
     (t-node-element-copy-out-known t)
     (t-node-returns t)
     (t-node-contains-requires t)
-    (t-node-element-write-in-t t)
+    (t-node-element-write-t t)
     (t-node-returns-2 t)
     (t-node-add-visits t)
-    (t-node-element-write-in-t-2 t)
+    (t-node-element-write-t-2 t)
     (t-node-some-rule-requires t)
     (t-node-leave-t-requires t)
     (t-node-holds-requires t)
@@ -674,7 +673,7 @@ pub +all-children+child+some-rule+t-node+tu-node+tu-search-spec : {M : Type 1} �
     (tu-node-contains-requires t)
     (tu-node-returns-3 t)
     (tu-node-add-visits t)
-    (tu-node-element-write-in-tu t)
+    (tu-node-element-write-tu t)
     (tu-node-some-rule-requires t)
     (tu-node-leave-tu-requires t)
     (tu-node-returns-4 t))
@@ -702,3 +701,4 @@ pub +all-children+child+some-rule+t-node+tu-node+tu-search-spec : {M : Type 1} �
     (tu-search-t-node-requires t)
     (tu-search-loop-less t)
     (tu-search-loop-again t)
+

@@ -16,11 +16,11 @@ use Rattle.search.proofs.is_head.Reads as is-head-reads
 use Rattle.search.proofs.mark_unless.Reads as mark-unless-reads
 
 abbrev Inv-loop : tie.InvT-loop
-Inv-loop firsts rules facts mark marks₀ a₀ marks a =
-    (length marks₀ ≡ capacity) × FilledTo (λ A. cond (headIn firsts rules (facts .words) A) 0 mark) marks₀ a marks
+Inv-loop first rules facts mark marks₀ a₀ marks a =
+    (length marks₀ ≡ capacity) × FilledTo (λ A. cond (headIn first rules (facts .words) A) 0 mark) marks₀ a marks
 
 abbrev μ-loop : tie.MeasureT-loop
-μ-loop firsts rules facts mark marks₀ a₀ marks a = capacity - a
+μ-loop first rules facts mark marks₀ a₀ marks a = capacity - a
 
 loop-holds : tie.Need-loop-holds Inv-loop μ-loop
 loop-holds c = (search needs, filled-none _ _)
@@ -48,7 +48,7 @@ loop-again c =
 returns : tie.Need-returns Inv-loop μ-loop
 returns c =
     let at = c .before .loop in
-    let heads = headIn (c .before .before .before .before .args .firsts .now) (c .before .before .before .before .args .rules .now) (c .before .before .before .before .args .facts .words) in
+    let heads = headIn (c .before .before .before .before .args .first .now) (c .before .before .before .before .args .rules .now) (c .before .before .before .before .args .facts .words) in
     let mark = c .before .before .before .before .args .mark in
     filled-is _ _ _ _ (at .inv .1) (omega (arith, at .inv .0)) _ (outside-room mark heads ∙ sym (at .inv .0)) (λ A h. outside-at mark heads A (omega (arith, at .inv .0)))
 

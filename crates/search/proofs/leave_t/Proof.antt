@@ -30,20 +30,20 @@ turn-requires c κs = search needs
 turn-requires-2 : tie.Need-turn-requires-2
 turn-requires-2 c κs = search needs
 
-element-write-in-t : tie.Need-element-write-in-t
-element-write-in-t c = search needs
+element-write-t : tie.Need-element-write-t
+element-write-t c = search needs
 
 enum-told-2 : tie.Need-enum-told-2
 enum-told-2 c = search needs
 
-element-write-in-t-2 : tie.Need-element-write-in-t-2
-element-write-in-t-2 c = search needs
+element-write-t-2 : tie.Need-element-write-t-2
+element-write-t-2 c = search needs
 
 enum-told-3 : tie.Need-enum-told-3
 enum-told-3 c = search needs
 
-element-write-in-t-3 : tie.Need-element-write-in-t-3
-element-write-in-t-3 c = search needs
+element-write-t-3 : tie.Need-element-write-t-3
+element-write-t-3 c = search needs
 
 returns : tie.Need-returns
 returns c = holds-there _ _ _ _ _ _ (c .before .before .before .before .enum-told .given .1) (c .before .before .turn .ensures) (c .turn2 .ensures)
@@ -61,11 +61,11 @@ leave-t-spec =
     enum-told
     turn-requires
     turn-requires-2
-    element-write-in-t
+    element-write-t
     enum-told-2
-    element-write-in-t-2
+    element-write-t-2
     enum-told-3
-    element-write-in-t-3
+    element-write-t-3
     returns
     returns-2
     returns-3)

@@ -27,20 +27,20 @@ enum-told c = search needs
 turn-requires : tie.Need-turn-requires
 turn-requires c κs = search needs
 
-element-write-in-tu : tie.Need-element-write-in-tu
-element-write-in-tu c = search needs
+element-write-tu : tie.Need-element-write-tu
+element-write-tu c = search needs
 
 enum-told-2 : tie.Need-enum-told-2
 enum-told-2 c = search needs
 
-element-write-in-tu-2 : tie.Need-element-write-in-tu-2
-element-write-in-tu-2 c = search needs
+element-write-tu-2 : tie.Need-element-write-tu-2
+element-write-tu-2 c = search needs
 
 enum-told-3 : tie.Need-enum-told-3
 enum-told-3 c = search needs
 
-element-write-in-tu-3 : tie.Need-element-write-in-tu-3
-element-write-in-tu-3 c = search needs
+element-write-tu-3 : tie.Need-element-write-tu-3
+element-write-tu-3 c = search needs
 
 returns : tie.Need-returns
 returns c = holds-there _ _ _ _ (c .before .before .enum-told .given .1) (c .turn .ensures)
@@ -57,11 +57,11 @@ leave-tu-spec =
     (tie.spec
     enum-told
     turn-requires
-    element-write-in-tu
+    element-write-tu
     enum-told-2
-    element-write-in-tu-2
+    element-write-tu-2
     enum-told-3
-    element-write-in-tu-3
+    element-write-tu-3
     returns
     returns-2
     returns-3)
