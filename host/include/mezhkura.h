@@ -8,7 +8,7 @@
  * number: 0 if the call is accepted; 1 to 9 for a refused file; 20 no book is loaded; 21 no such literal; 22 put
  * in now; 23 not put in; 24 contradictory; 25 buffer too short.
  *
- * A search takes up to 28 MB of stack: call mezhkura_search on a thread that has them.
+ * Every call runs on a stack of 512 KB.
  */
 #ifndef MEZHKURA_H
 #define MEZHKURA_H

@@ -1,11 +1,12 @@
-//! Runs a list of calls on the second implementation and on another desk, and says where the two
-//! first differ.
+//! Runs a list of calls on the second implementation and on another desk, asks every question of the
+//! book that the list leaves, and says where the two first differ.
 
 use crate::answer::{Model, Question, Refused, Tree, Verdict};
 use crate::gen::Call;
-use crate::second::Lesson;
+use crate::second::{self, Lesson, Program};
 use crate::shrink::shortest_calls;
 use std::fmt;
+use std::ops::AddAssign;
 
 /// The calls of a lesson, as the comparison makes them.
 pub trait Desk {
@@ -20,42 +21,66 @@ pub trait Desk {
     fn state(&self) -> Vec<u8>;
 }
 
-/// Questions whose trees have more nodes than this aren't asked.
-pub const MOST_VISITS: u64 = 20_000;
+/// The second implementation's walk is given up after so many visits, since plain trees can have
+/// exponentially many nodes. That bounds its depth too, and so its stack.
+pub const MOST_VISITS: u64 = 1_000;
 
 /// What a buffer holds before it is lent: no byte of a listing.
 const UNTOUCHED: u8 = 0xA5;
 
-/// Where the two desks first differ in a list of calls or after it, or nothing. The other desk is a
-/// fresh one.
-pub fn first_difference(calls: &[Call], other: &mut dyn Desk) -> Option<String> {
-    let mut second = Lesson::fresh();
-    first_answer_that_differs(calls, &mut second, other)
-        .or_else(|| difference_at_the_end(&second, other))
+/// How much was asked of the books that lists of calls left.
+#[derive(Clone, Copy, Debug, Default, PartialEq, Eq)]
+pub struct Asked {
+    pub books: usize,
+    pub questions: usize,
+    /// Questions that the second implementation's own walk answered too.
+    pub walked: usize,
 }
 
-/// The first call of a list whose answers differ, or nothing.
-pub fn first_answer_that_differs(
+impl AddAssign for Asked {
+    fn add_assign(&mut self, more: Asked) {
+        self.books += more.books;
+        self.questions += more.questions;
+        self.walked += more.walked;
+    }
+}
+
+/// What was asked after a list of calls on which the two desks agree, or a list whose last call they
+/// answer differently. The other desk is a fresh one.
+pub fn agree(calls: &[Call], other: &mut dyn Desk) -> Result<Asked, Vec<Call>> {
+    let mut second = Lesson::fresh();
+    if let Some((place, _)) = first_difference(calls, &mut second, other) {
+        return Err(calls[..=place].to_vec());
+    }
+    agree_at_the_end(&second, other).map_err(|call| [calls, &[call]].concat())
+}
+
+/// The place of the first call of a list whose answers differ, with the answers, or nothing.
+fn first_difference(
     calls: &[Call],
     second: &mut Lesson,
     other: &mut dyn Desk,
-) -> Option<String> {
+) -> Option<(usize, String)> {
     calls.iter().enumerate().find_map(|(place, call)| {
         let (ours, theirs) = both(call, second, other);
         (ours != theirs).then(|| {
-            format!("call {place} ({call:?}): second says {ours}, the other says {theirs}")
+            (
+                place,
+                format!("second says {ours}, the other says {theirs}"),
+            )
         })
     })
 }
 
-/// A short list of calls that shows a difference, with its difference, ready to print.
+/// A short list of calls that shows a difference, with its difference, ready to print. The list given
+/// has a call that is answered differently, so that trying a shorter list takes no other questions.
 pub fn explain<D: Desk>(calls: Vec<Call>, fresh: impl Fn() -> D) -> String {
-    let short = shortest_calls(calls, &mut |calls| {
-        first_difference(calls, &mut fresh()).is_some()
-    });
-    let difference = first_difference(&short, &mut fresh()).expect("the short list shows it too");
+    let differs = |calls: &[Call]| first_difference(calls, &mut Lesson::fresh(), &mut fresh());
+    let short = shortest_calls(calls, &mut |calls| differs(calls).is_some());
+    let (place, answers) = differs(&short).expect("the short list shows it too");
     let calls: String = short.iter().map(|call| format!("  {call:?}\n")).collect();
-    format!("{difference}\nafter these calls on a fresh lesson:\n{calls}")
+    let call = &short[place];
+    format!("call {place} ({call:?}): {answers}\nin these calls on a fresh lesson:\n{calls}")
 }
 
 /// What a desk answers to a call, as text that holds every part of the answer.
@@ -94,22 +119,25 @@ fn both_answers(call: &Call, second: &mut Lesson, other: &mut dyn Desk) -> (Told
         Call::PutIn(l) => (told(second.put_in(*l)), told(other.put_in(*l))),
         Call::TakeOut(l) => (told(second.take_out(*l)), told(other.take_out(*l))),
         Call::Verdict(l) => (told(second.verdict(*l)), told(other.verdict(*l))),
-        Call::Search(question) => both_searches(*question, second, other),
+        Call::Search(q) => (second_search(*q, second), told(other.search(*q))),
         Call::Model => (told(second.model()), told(other.model())),
         Call::Listing { margin } => both_listings(*margin, second, other),
     }
 }
 
-/// Both answers to a question. One with too many nodes isn't asked: the other desk may walk its trees
-/// in another order.
-fn both_searches(question: Question, second: &Lesson, other: &dyn Desk) -> (Told, Told) {
-    if second.search_is_short(question, MOST_VISITS) == Ok(false) {
-        return (told(Ok("not asked")), told(Ok("not asked")));
-    }
+/// What the second implementation says to a question: what M and N say, and its walk beside them where
+/// that ends and says otherwise.
+fn second_search(question: Question, second: &Lesson) -> Told {
+    let by_model = second
+        .model()
+        .map(|model| answer_by_model(question, &model));
     match second.search(question, MOST_VISITS) {
-        Ok(None) => (told(Ok("no end")), told(other.search(question))),
-        Ok(Some(answer)) => (told(Ok(answer)), told(other.search(question))),
-        Err(refused) => (told::<bool>(Err(refused)), told(other.search(question))),
+        Err(refused) => told::<bool>(Err(refused)),
+        Ok(Some(walk)) if by_model != Ok(walk) => Told {
+            text: format!("{by_model:?} by M and N, {walk} by its walk"),
+            refused: false,
+        },
+        Ok(_) => told(by_model),
     }
 }
 
@@ -126,24 +154,34 @@ fn both_listings(margin: isize, second: &Lesson, other: &dyn Desk) -> (Told, Tol
     (our_answer, their_answer)
 }
 
-/// After a list: model and listing, and every literal's four searches against M and N.
-fn difference_at_the_end(second: &Lesson, other: &mut dyn Desk) -> Option<String> {
+/// What was asked after a list (model, listing, and every literal's four searches against M and N), or a
+/// call that is answered differently.
+fn agree_at_the_end(second: &Lesson, other: &mut dyn Desk) -> Result<Asked, Call> {
     let mut copy = second.clone();
     for call in [Call::Model, Call::Listing { margin: 3 }] {
         let (ours, theirs) = both(&call, &mut copy, other);
         if ours != theirs {
-            return Some(format!(
-                "after the list, {call:?}: second says {ours}, the other says {theirs}"
-            ));
+            return Err(call);
         }
     }
-    let Ok(model) = second.model() else {
-        return None;
+    let (Some(book), Ok(model)) = (second.book(), second.model()) else {
+        return Ok(Asked::default());
     };
-    let literals = second.book().map_or(0, |book| book.literals());
-    (0..literals)
-        .flat_map(questions)
-        .find_map(|question| difference_of_search(question, &model, second, other))
+    let program = Program::new(book, second.facts());
+    let mut asked = Asked {
+        books: 1,
+        ..Asked::default()
+    };
+    for question in (0..book.literals()).flat_map(questions) {
+        let expected = answer_by_model(question, &model);
+        let walk = second::search(&program, question, MOST_VISITS);
+        if walk.is_some_and(|answer| answer != expected) || other.search(question) != Ok(expected) {
+            return Err(Call::Search(question));
+        }
+        asked.questions += 1;
+        asked.walked += usize::from(walk.is_some());
+    }
+    Ok(asked)
 }
 
 /// The four questions about a literal.
@@ -171,25 +209,4 @@ pub fn answer_by_model(question: Question, model: &Model) -> bool {
         (true, Tree::T) => !possibly,
         (true, Tree::TU) => !truly,
     }
-}
-
-fn difference_of_search(
-    question: Question,
-    model: &Model,
-    second: &Lesson,
-    other: &dyn Desk,
-) -> Option<String> {
-    if second.search_is_short(question, MOST_VISITS) != Ok(true) {
-        return None;
-    }
-    let ours = second.search(question, MOST_VISITS).ok()??;
-    let expected = answer_by_model(question, model);
-    let theirs = other.search(question);
-    let call = Call::Search(question);
-    if ours != expected || theirs != Ok(expected) {
-        return Some(format!(
-            "after the list, {call:?}: M and N say {expected}, second says {ours}, the other says {theirs:?}"
-        ));
-    }
-    None
 }

@@ -24,7 +24,6 @@
 use crate::answer::{Model, Question, Refused, Tree, Verdict};
 use crate::compare::Desk;
 use crate::exports;
-use crate::stack::with_search_stack;
 use std::collections::BTreeSet;
 use std::fmt;
 
@@ -78,16 +77,7 @@ impl Lesson {
     }
 
     /// The answer to a question by a walk of its trees. Refused with 20 or 21.
-    ///
-    /// A search takes up to 28 MB of stack, so it runs on a thread of its own that has them. Its time
-    /// can grow exponentially with the size of the book.
     pub fn search(&self, question: Question) -> Result<bool, Refused> {
-        with_search_stack(|| self.search_here(question))
-    }
-
-    /// As [`Lesson::search`], on the caller's thread, which has to have the stack: call it inside
-    /// [`with_search_stack`], where many searches share one thread.
-    pub fn search_here(&self, question: Question) -> Result<bool, Refused> {
         let tree = match question.tree {
             Tree::T => exports::TREE_T,
             Tree::TU => exports::TREE_TU,
@@ -153,7 +143,7 @@ fn members(set: exports::LitSet) -> BTreeSet<usize> {
     found
 }
 
-/// For the comparison, which runs on a thread with the stack for searches.
+/// For the comparison.
 impl Desk for Lesson {
     fn load(&mut self, file: &[u8]) -> Result<(), Refused> {
         Lesson::load(self, file)
@@ -172,7 +162,7 @@ impl Desk for Lesson {
     }
 
     fn search(&self, question: Question) -> Result<bool, Refused> {
-        self.search_here(question)
+        Lesson::search(self, question)
     }
 
     fn model(&self) -> Result<Model, Refused> {

@@ -219,6 +219,41 @@ pub fn deep_book(n: usize) -> Book {
     }
 }
 
+/// A book with two names a level, each of which follows from both names of the next level; the last
+/// two hold. A plain T-tree of literal 0 has 2^(levels + 1) - 1 nodes.
+pub fn layered_book(levels: usize) -> Book {
+    let names = 2 * (levels + 1);
+    assert!(names <= MOST_NAMES);
+    let rule = |n: usize| {
+        let below = 2 * (n / 2 + 1);
+        let body = if below == names {
+            Vec::new()
+        } else {
+            vec![objective(2 * below), objective(2 * below + 2)]
+        };
+        Rule { head: 2 * n, body }
+    };
+    Book {
+        names: (0..names).map(name).collect(),
+        rules: (0..names).map(rule).collect(),
+    }
+}
+
+/// Books of a shape, the largest of each kind and small ones beside it.
+pub fn shaped_books() -> Vec<Book> {
+    let mut books = vec![long_model_book()];
+    books.extend([1, 7, 63].map(layered_book));
+    books.extend([1, 17, 60].map(deep_book));
+    books
+}
+
+/// Literals of a book to put in, at times one of them twice. They are few, since many make most books
+/// contradictory.
+pub fn some_literals(random: &mut Random, book: &Book) -> Vec<usize> {
+    let count = random.pick(&[0, 1, 2, 12]);
+    (0..count).map(|_| random.below(book.literals())).collect()
+}
+
 fn objective(literal: usize) -> Entry {
     Entry {
         literal,

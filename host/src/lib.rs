@@ -16,4 +16,3 @@ mod exports;
 pub mod gen;
 pub mod second;
 pub mod shrink;
-pub mod stack;

@@ -2,10 +2,9 @@
 //! the comparison of two desks finds wrong ones.
 
 use mezhkura::answer::{Model, Question, Refused, Tree, Verdict};
-use mezhkura::compare::{answer_by_model, explain, first_difference, questions, Desk};
+use mezhkura::compare::{agree, answer_by_model, explain, questions, Asked, Desk, MOST_VISITS};
 use mezhkura::gen::{self, Random, Size, MIDDLE, SMALL};
-use mezhkura::second::{contradictory_name, gamma, Lesson, Program, Walk};
-use mezhkura::stack::with_search_stack;
+use mezhkura::second::{contradictory_name, gamma, search, Book, Lesson, Program, Walk};
 use std::collections::BTreeSet;
 
 /// The seed of the random books; another can be set by hand.
@@ -34,26 +33,39 @@ fn file_of(lesson: &Lesson) -> String {
     format!("{}facts {:?}", book.to_file(), lesson.facts())
 }
 
-/// How the searches of some random lessons went.
+/// A lesson of a large book with some facts put in.
+fn large_lesson(random: &mut Random, book: &Book) -> Lesson {
+    let mut lesson = Lesson::fresh();
+    lesson
+        .load(book.to_file().as_bytes())
+        .expect("a generated book loads");
+    for literal in gen::some_literals(random, book) {
+        // A literal put in twice is refused: that is no matter.
+        let _ = lesson.put_in(literal);
+    }
+    lesson
+}
+
+/// How the searches of some lessons went.
 #[derive(Debug, Default)]
 struct Tally {
+    lessons: usize,
     asked: usize,
     not_ended: usize,
     contradictory: usize,
 }
 
-/// Asks every literal's four questions of so many random lessons.
-fn searches_of(lessons: usize, size: Size, seed: u64) -> Tally {
-    let mut random = Random::new(seed);
+/// Asks every literal's four questions of some lessons.
+fn searches_of(lessons: impl Iterator<Item = Lesson>, visits: u64) -> Tally {
     let mut tally = Tally::default();
-    for _ in 0..lessons {
-        let lesson = random_lesson(&mut random, size);
+    for lesson in lessons {
         let model = lesson.model().expect("a book is loaded");
+        tally.lessons += 1;
         tally.contradictory += usize::from(model.contradictory);
         let literals = lesson.book().map_or(0, |book| book.literals());
         for question in (0..literals).flat_map(questions) {
             tally.asked += 1;
-            match lesson.search(question, 20_000) {
+            match lesson.search(question, visits) {
                 Ok(Some(answer)) => {
                     let expected = answer_by_model(question, &model);
                     assert_eq!(answer, expected, "{question:?} of\n{}", file_of(&lesson));
@@ -63,18 +75,32 @@ fn searches_of(lessons: usize, size: Size, seed: u64) -> Tally {
             }
         }
     }
-    println!("{lessons} lessons of {size:?}: {tally:?}");
+    println!("{tally:?}");
     tally
 }
 
 #[test]
 fn searches_agree_with_m_and_n() {
-    let small = searches_of(6_000, SMALL, seed());
+    let of_size = |count, size, seed| {
+        let mut random = Random::new(seed);
+        searches_of((0..count).map(|_| random_lesson(&mut random, size)), 20_000)
+    };
+    let small = of_size(6_000, SMALL, seed());
     assert!(small.not_ended * 100 < small.asked);
     assert!(small.contradictory > 500);
-    let middle = searches_of(400, MIDDLE, seed() + 3);
+    let middle = of_size(400, MIDDLE, seed() + 3);
     assert!(middle.not_ended * 4 < middle.asked);
     assert!(middle.contradictory > 50);
+}
+
+#[test]
+fn short_searches_of_large_books_agree_with_m_and_n() {
+    let mut random = Random::new(seed() + 4);
+    let mut books = gen::shaped_books();
+    books.extend((0..10).map(|_| gen::full_book(&mut random)));
+    let lessons = books.iter().map(|book| large_lesson(&mut random, book));
+    let tally = searches_of(lessons, MOST_VISITS);
+    assert!(0 < tally.not_ended && tally.not_ended * 4 < tally.asked * 3);
 }
 
 /// Every set of literals below a bound, as flags.
@@ -167,6 +193,7 @@ enum How {
     NotAtAll,
     PutInStoresNothing,
     SearchSaysNo,
+    LongSearchSaysNo,
     ShortBufferOfALongOne,
     WritesPastTheListing,
     ModelOfTheBookAlone,
@@ -211,8 +238,12 @@ impl Desk for Wrong {
     }
 
     fn search(&self, question: Question) -> Result<bool, Refused> {
-        let answer = self.lesson.search(question, u64::MAX)?;
-        Ok(self.how != How::SearchSaysNo && answer.expect("no bound on visits"))
+        let walk = self.lesson.search(question, MOST_VISITS)?;
+        Ok(match (self.how, walk) {
+            (How::SearchSaysNo, _) | (How::LongSearchSaysNo, None) => false,
+            (_, Some(answer)) => answer,
+            (_, None) => answer_by_model(question, &self.lesson.model()?),
+        })
     }
 
     fn model(&self) -> Result<Model, Refused> {
@@ -246,24 +277,29 @@ impl Desk for Wrong {
     }
 }
 
-fn random_lists(how: How, lists: usize) -> Option<String> {
+/// What was asked after so many lists of calls, or a list that shows a difference.
+fn random_lists(how: How, lists: usize) -> Result<Asked, String> {
     let fresh = || Wrong {
         lesson: Lesson::fresh(),
         how,
     };
     let mut random = Random::new(seed() + 2);
+    let mut asked = Asked::default();
     for _ in 0..lists {
         let calls = gen::calls(&mut random, SMALL);
-        if first_difference(&calls, &mut fresh()).is_some() {
-            return Some(explain(calls, fresh));
+        match agree(&calls, &mut fresh()) {
+            Ok(more) => asked += more,
+            Err(calls) => return Err(explain(calls, fresh)),
         }
     }
-    None
+    Ok(asked)
 }
 
 #[test]
 fn a_desk_that_agrees_is_found_to_agree() {
-    assert_eq!(random_lists(How::NotAtAll, 1_000), None);
+    let asked = random_lists(How::NotAtAll, 1_000).unwrap_or_else(|text| panic!("{text}"));
+    println!("{asked:?}");
+    assert!(asked.questions > 10_000 && asked.walked < asked.questions);
 }
 
 #[test]
@@ -271,6 +307,7 @@ fn wrong_desks_are_found_and_explained_in_few_calls() {
     for how in [
         How::PutInStoresNothing,
         How::SearchSaysNo,
+        How::LongSearchSaysNo,
         How::ShortBufferOfALongOne,
         How::WritesPastTheListing,
         How::ModelOfTheBookAlone,
@@ -278,16 +315,31 @@ fn wrong_desks_are_found_and_explained_in_few_calls() {
         How::LoadKeepsFacts,
         How::RefusedPutInTakesOut,
     ] {
-        let text = random_lists(how, 2_000).unwrap_or_else(|| panic!("{how:?} wasn't found"));
+        let Err(text) = random_lists(how, 2_000) else {
+            panic!("{how:?} wasn't found");
+        };
         println!("{how:?}: {text}");
         let calls = text.lines().filter(|line| line.starts_with("  ")).count();
         assert!(calls <= 4, "{how:?} takes {calls} calls:\n{text}");
     }
 }
 
-/// The stack for deep searches holds a walk of thousands of nodes above each other.
+/// The plain tree of the layered book doubles with each level.
 #[test]
-fn a_deep_search_has_its_stack() {
+fn the_layered_book_has_a_wide_tree() {
+    let program = Program::new(&gen::layered_book(9), &BTreeSet::new());
+    let question = Question {
+        literal: 0,
+        default: false,
+        tree: Tree::T,
+    };
+    assert_eq!(search(&program, question, 1_023), Some(true));
+    assert_eq!(search(&program, question, 1_022), None);
+}
+
+/// The deep book is what it is made for, and the stack of a test holds the walk of its plain tree.
+#[test]
+fn the_deep_book_has_a_deep_tree() {
     let book = gen::deep_book(60);
     let program = Program::new(&book, &BTreeSet::new());
     let question = Question {
@@ -295,10 +347,7 @@ fn a_deep_search_has_its_stack() {
         default: false,
         tree: Tree::TU,
     };
-    let (answer, deepest) = with_search_stack(|| {
-        let mut walk = Walk::new(&program, 100_000);
-        (walk.ask(question), walk.deepest)
-    });
-    assert_eq!(answer, Some(program.halves().nonfalse[0]));
-    assert!(deepest > 3_600, "the walk was {deepest} nodes deep");
+    let mut walk = Walk::new(&program, 10_000);
+    assert_eq!(walk.ask(question), Some(program.halves().nonfalse[0]));
+    assert!(walk.deepest > 3_600, "{} nodes deep", walk.deepest);
 }

@@ -1,11 +1,11 @@
-//! The engine compared with the second implementation (feature `engine`).
+//! The engine compared with the second implementation (feature `engine`). Every list of calls ends with
+//! all questions of the book that it leaves.
 #![cfg(feature = "engine")]
 
-use mezhkura::compare::{explain, first_difference};
+use mezhkura::compare::{agree, explain, questions, Asked};
 use mezhkura::engine::Lesson;
 use mezhkura::gen::{self, Call, Random, FULL, MIDDLE, SMALL};
-use mezhkura::second;
-use mezhkura::stack::with_search_stack;
+use mezhkura::second::read;
 use std::fs;
 use std::path::Path;
 
@@ -17,96 +17,122 @@ fn seed() -> u64 {
     }
 }
 
-fn compare(calls: Vec<Call>) {
-    if first_difference(&calls, &mut Lesson::fresh()).is_some() {
-        panic!("{}", explain(calls, Lesson::fresh));
+/// Compares so many lists of calls, and prints and answers what was asked.
+fn compare(label: &str, lists: impl Iterator<Item = Vec<Call>>) -> Asked {
+    let mut asked = Asked::default();
+    for calls in lists {
+        match agree(&calls, &mut Lesson::fresh()) {
+            Ok(more) => asked += more,
+            Err(calls) => panic!("{}", explain(calls, Lesson::fresh)),
+        }
     }
+    println!("{label}: {asked:?}");
+    asked
 }
 
-/// Loads a file, and then asks what costs no search.
+/// Loads a file, and then makes every other call, with literals at the edges of sets and of books.
 fn load_and_look(file: Vec<u8>) -> Vec<Call> {
-    let listings = [-1, 0, 9].map(|margin| Call::Listing { margin });
     let literals = [0, 1, 2, 100, 253, 254, 255, 256];
-    let mut calls = vec![Call::Load(file), Call::Model];
-    calls.extend(listings);
-    calls.extend(literals.map(Call::Verdict));
+    let mut calls = vec![Call::Load(file)];
+    calls.extend(look(&literals));
     calls.extend(literals.map(Call::PutIn));
-    calls.push(Call::Model);
-    calls.extend(literals.map(Call::Verdict));
+    calls.extend(look(&literals));
     calls.extend(literals.map(Call::TakeOut));
-    calls.push(Call::Listing { margin: 0 });
     calls
 }
 
-/// As [`compare`], without the searches at the end, for books on which plain trees don't end.
-fn compare_without_searches(calls: Vec<Call>) {
-    let differs = |calls: &[Call]| first_answer_that_differs(calls).is_some();
-    if differs(&calls) {
-        let short = mezhkura::shrink::shortest_calls(calls, &mut |c| differs(c));
-        panic!(
-            "{}\n{short:#?}",
-            first_answer_that_differs(&short).unwrap_or_default()
-        );
-    }
+/// The calls that change nothing.
+fn look(literals: &[usize]) -> Vec<Call> {
+    let mut calls = vec![Call::Model];
+    calls.extend([-1, 0, 9].map(|margin| Call::Listing { margin }));
+    calls.extend(literals.iter().map(|&literal| Call::Verdict(literal)));
+    let questions = literals.iter().flat_map(|&literal| questions(literal));
+    calls.extend(questions.map(Call::Search));
+    calls
 }
 
-fn first_answer_that_differs(calls: &[Call]) -> Option<String> {
-    mezhkura::compare::first_answer_that_differs(
-        calls,
-        &mut second::Lesson::fresh(),
-        &mut Lesson::fresh(),
-    )
+/// As [`load_and_look`], with facts of the book put in at the end.
+fn with_facts(random: &mut Random, file: Vec<u8>) -> Vec<Call> {
+    let book = read(&file).expect("the book loads");
+    let facts = gen::some_literals(random, &book);
+    let mut calls = load_and_look(file);
+    calls.extend(facts.into_iter().map(Call::PutIn));
+    calls
+}
+
+/// Compares books, each without facts and four times with facts.
+fn compare_books(label: &str, seed: u64, files: &[Vec<u8>]) {
+    let mut random = Random::new(seed);
+    let lists = files.iter().flat_map(|file| {
+        let mut lists = vec![load_and_look(file.clone())];
+        lists.extend((0..4).map(|_| with_facts(&mut random, file.clone())));
+        lists
+    });
+    assert_eq!(compare(label, lists).books, 5 * files.len());
 }
 
 #[test]
 fn lists_of_calls_agree() {
-    with_search_stack(|| {
-        let mut random = Random::new(seed());
-        for _ in 0..20_000 {
-            compare(gen::calls(&mut random, SMALL));
-        }
-        for _ in 0..500 {
-            compare(gen::calls(&mut random, MIDDLE));
-        }
-    });
+    let mut random = Random::new(seed());
+    let small = (0..20_000).map(|_| gen::calls(&mut random, SMALL));
+    assert!(compare("small lists", small).questions > 200_000);
+    let middle = (0..2_000).map(|_| gen::calls(&mut random, MIDDLE));
+    assert!(compare("middle lists", middle).questions > 40_000);
 }
 
 #[test]
 fn small_files_agree() {
-    with_search_stack(|| {
-        let mut random = Random::new(seed() + 1);
-        for _ in 0..20_000 {
-            compare(vec![Call::Load(gen::file(&mut random, SMALL))]);
-        }
-    });
+    let mut random = Random::new(seed() + 1);
+    let files = (0..20_000).map(|_| vec![Call::Load(gen::file(&mut random, SMALL))]);
+    assert!(compare("small files", files).questions > 100_000);
 }
 
 #[test]
 fn edges_agree() {
-    for file in gen::edge_files() {
-        compare_without_searches(load_and_look(file));
-    }
+    let files = gen::edge_files().into_iter().map(load_and_look);
+    assert!(compare("edges", files).questions > 2_000);
 }
 
 #[test]
 fn full_books_agree() {
     let mut random = Random::new(seed() + 2);
-    for _ in 0..150 {
+    let books = (0..24).map(|_| {
         let full = gen::full_book(&mut random).to_file().into_bytes();
-        compare_without_searches(load_and_look(gen::damaged(&mut random, &full)));
-        compare_without_searches(load_and_look(full));
-        compare_without_searches(load_and_look(gen::file(&mut random, FULL)));
-    }
+        with_facts(&mut random, full)
+    });
+    assert_eq!(compare("full books", books).questions, 24 * 1_024);
+}
+
+#[test]
+fn damaged_full_books_agree() {
+    let mut random = Random::new(seed() + 3);
+    let files = (0..50).flat_map(|_| {
+        let full = gen::full_book(&mut random).to_file().into_bytes();
+        let damaged = gen::damaged(&mut random, &full);
+        [damaged, gen::file(&mut random, FULL)]
+    });
+    assert!(compare("damaged full books", files.map(load_and_look)).questions > 10_000);
+}
+
+#[test]
+fn shaped_books_agree() {
+    let books = gen::shaped_books();
+    let files: Vec<_> = books.iter().map(|b| b.to_file().into_bytes()).collect();
+    compare_books("shaped books", seed() + 4, &files);
 }
 
 #[test]
 fn examples_agree() {
     let folder = Path::new(env!("CARGO_MANIFEST_DIR")).join("../examples");
-    for entry in fs::read_dir(folder).expect("the folder examples") {
-        let path = entry.expect("an entry of examples").path();
-        if path.extension().is_some_and(|ending| ending == "book") {
-            let file = fs::read(path).expect("a book of examples");
-            compare_without_searches(load_and_look(file));
-        }
-    }
+    let mut paths: Vec<_> = fs::read_dir(folder)
+        .expect("the folder examples")
+        .map(|entry| entry.expect("an entry of examples").path())
+        .filter(|path| path.extension().is_some_and(|ending| ending == "book"))
+        .collect();
+    // A folder has no order of its own, and the seed says which facts a book is given.
+    paths.sort();
+    assert!(paths.len() >= 4, "{} examples", paths.len());
+    let read = |path| fs::read(path).expect("a book of examples");
+    let files: Vec<_> = paths.iter().map(read).collect();
+    compare_books("examples", seed() + 5, &files);
 }

@@ -4,9 +4,7 @@
 use mezhkura::answer::{Question, Tree};
 use mezhkura::engine::Lesson;
 use mezhkura::gen::{self, Random};
-use mezhkura::second::{self, Program, Walk};
-use mezhkura::stack::with_search_stack;
-use std::collections::BTreeSet;
+use mezhkura::second;
 use std::env;
 use std::hint::black_box;
 use std::process::{Command, ExitCode, Stdio};
@@ -15,26 +13,20 @@ use std::time::{Duration, Instant};
 
 fn main() -> ExitCode {
     let words: Vec<String> = env::args().skip(1).collect();
-    if let [word, stack, names] = &words[..] {
-        if word == "deep" {
-            deep_search(number(stack), number(names));
-            return ExitCode::SUCCESS;
+    let words: Vec<&str> = words.iter().map(String::as_str).collect();
+    match words[..] {
+        [] => {
+            print_calls();
+            print_searches();
+            print_stack();
+        }
+        ["stack", call, stack] => call_on(call, stack.parse().expect("a number of bytes")),
+        _ => {
+            eprintln!("usage: measure");
+            return ExitCode::FAILURE;
         }
     }
-    if !words.is_empty() {
-        eprintln!("usage: measure");
-        return ExitCode::FAILURE;
-    }
-    with_search_stack(|| {
-        print_calls();
-        print_searches();
-    });
-    print_stack();
     ExitCode::SUCCESS
-}
-
-fn number(word: &str) -> usize {
-    word.parse().expect("a number")
 }
 
 /// A book with the words that the tables call it by.
@@ -44,39 +36,51 @@ struct Sample {
 }
 
 fn samples() -> Vec<Sample> {
-    let full = gen::full_book(&mut Random::new(1)).to_file();
-    let texts: [(&str, String); 4] = [
+    let files: [(&str, Vec<u8>); 4] = [
         (
             "small: examples/first.book",
-            include_str!("../../../examples/first.book").into(),
+            include_bytes!("../../../examples/first.book").into(),
         ),
         (
             "middle: examples/eleven_axles.book",
-            include_str!("../../../examples/eleven_axles.book").into(),
+            include_bytes!("../../../examples/eleven_axles.book").into(),
         ),
         (
             "full: random, 128 names, 512 rules, 2,048 body literals",
-            full,
+            full_file(1),
         ),
         (
             "full: 128 names, 508 rules, each name unless the next",
-            gen::long_model_book().to_file(),
+            gen::long_model_book().to_file().into_bytes(),
         ),
     ];
-    texts
+    files
         .into_iter()
-        .map(|(label, text)| Sample {
-            label,
-            file: text.into_bytes(),
-        })
+        .map(|(label, file)| Sample { label, file })
         .collect()
 }
 
-/// The mean time of a run, over at least 20 ms of runs.
-fn mean_of<R>(work: &mut impl FnMut() -> R) -> Duration {
+/// The full random book of a seed.
+fn full_file(seed: u64) -> Vec<u8> {
+    let book = gen::full_book(&mut Random::new(seed));
+    book.to_file().into_bytes()
+}
+
+fn deep_file() -> Vec<u8> {
+    gen::deep_book(60).to_file().into_bytes()
+}
+
+/// The mean of a call is over runs that take at least this time together.
+const RUNS_OF_A_CALL: Duration = Duration::from_millis(20);
+
+/// The same for a question, of which a book has hundreds.
+const RUNS_OF_A_QUESTION: Duration = Duration::from_micros(100);
+
+/// The mean time of a run, over runs that take at least so long together.
+fn mean_of<R>(together: Duration, work: &mut impl FnMut() -> R) -> Duration {
     let start = Instant::now();
     let mut runs = 0;
-    while runs == 0 || start.elapsed() < Duration::from_millis(20) {
+    while runs == 0 || start.elapsed() < together {
         black_box(work());
         runs += 1;
     }
@@ -91,7 +95,12 @@ fn times_of<R, S>(
     mut second: impl FnMut() -> S,
 ) -> (Duration, Duration) {
     let turns: Vec<_> = (0..5)
-        .map(|_| (mean_of(&mut engine), mean_of(&mut second)))
+        .map(|_| {
+            (
+                mean_of(RUNS_OF_A_CALL, &mut engine),
+                mean_of(RUNS_OF_A_CALL, &mut second),
+            )
+        })
         .collect();
     let least = |side: fn(&(Duration, Duration)) -> Duration| turns.iter().map(side).min();
     (
@@ -100,8 +109,11 @@ fn times_of<R, S>(
     )
 }
 
+fn micros(time: Duration) -> f64 {
+    time.as_secs_f64() * 1e6
+}
+
 fn print_row(label: &str, call: &str, (engine, second): (Duration, Duration)) {
-    let micros = |time: Duration| time.as_secs_f64() * 1e6;
     println!(
         "| {label} | {call} | {:.1} | {:.1} | {:.2} |",
         micros(engine),
@@ -157,106 +169,123 @@ fn print_calls_of(sample: &Sample) {
     print_row(label, "put in and take out", change);
 }
 
-/// A question that ends within the visits that a measurement allows.
-const MOST_VISITS: u64 = 50_000;
-
 fn print_searches() {
     println!();
-    println!("| book | search | visits | depth | engine, µs | second, µs | engine / second |");
-    println!("|---|---|---|---|---|---|---|");
-    // In the random book a walk that goes in another order than the second implementation's may not end.
-    let with_an_end = |sample: &Sample| !sample.label.starts_with("full: random");
-    for sample in samples().into_iter().filter(with_an_end) {
-        for tree in [Tree::T, Tree::TU] {
-            print_search(&sample, tree);
-        }
+    println!("| book | questions | mean, µs | most, µs | model call, µs | mean / model call |");
+    println!("|---|---|---|---|---|---|");
+    for sample in samples() {
+        print_questions(sample.label, &[sample.file]);
     }
-    let deep = Sample {
-        label: "deep: 60 and 60 names",
-        file: gen::deep_book(60).to_file().into_bytes(),
-    };
-    print_search(&deep, Tree::TU);
+    print_questions("deep: 60 and 60 names", &[deep_file()]);
+    let full: Vec<_> = (1..=20).map(full_file).collect();
+    print_questions("full: 20 random books, seeds 1 to 20", &full);
 }
 
-/// The search of the sample's question with most visits among those that end.
-fn print_search(sample: &Sample, tree: Tree) {
-    let mut engine = Lesson::fresh();
-    let mut other = second::Lesson::fresh();
-    engine.load(&sample.file).expect("the book loads");
-    other.load(&sample.file).expect("the book loads");
-    let book = other.book().expect("a book is loaded");
-    let program = Program::new(book, &BTreeSet::new());
-    let longest = (0..book.literals())
-        .filter_map(|literal| {
-            let question = Question {
-                literal,
-                default: false,
-                tree,
-            };
-            let mut walk = Walk::new(&program, MOST_VISITS);
-            walk.ask(question)?;
-            Some((walk.visits, walk.deepest, question))
-        })
-        .max_by_key(|found| found.0);
-    let Some((visits, depth, question)) = longest else {
-        println!("| {} | {tree:?} | none ends | | | | |", sample.label);
-        return;
-    };
-    let (time, second_time) = times_of(
-        || engine.search_here(question),
-        || other.search(question, u64::MAX),
-    );
+/// A row for all questions of some books, beside the model calls of the same books.
+fn print_questions(label: &str, files: &[Vec<u8>]) {
+    let (mut times, mut models) = (Vec::new(), Duration::ZERO);
+    for file in files {
+        let (questions, model) = times_of_questions(file);
+        times.extend(questions.into_iter().map(|(_, time)| time));
+        models += model;
+    }
+    let most = times.iter().max().expect("a book has questions");
+    let mean = micros(times.iter().sum()) / times.len() as f64;
+    let model = micros(models) / files.len() as f64;
     println!(
-        "| {} | {tree:?}, literal {} | {visits} | {depth} | {:.1} | {:.1} | {:.2} |",
-        sample.label,
-        question.literal,
-        time.as_secs_f64() * 1e6,
-        second_time.as_secs_f64() * 1e6,
-        time.as_secs_f64() / second_time.as_secs_f64()
+        "| {label} | {} | {mean:.1} | {:.1} | {model:.1} | {:.2} |",
+        times.len(),
+        micros(*most),
+        mean / model
     );
 }
 
-/// Searches the deep book on a thread with this stack. Where the stack is too small the process dies.
-fn deep_search(stack: usize, names: usize) {
-    let worker = thread::Builder::new()
-        .stack_size(stack)
-        .spawn(move || {
-            let mut lesson = Lesson::fresh();
-            let file = gen::deep_book(names).to_file();
-            lesson.load(file.as_bytes()).expect("the book loads");
-            let question = Question {
-                literal: 0,
-                default: false,
-                tree: Tree::TU,
-            };
-            lesson.search_here(question)
-        })
-        .expect("the system gives a thread with this stack");
-    worker
-        .join()
-        .expect("the search ends")
-        .expect("the literal is the book's");
+/// The time of each question T and TU of a book's literals and that of the model call: the least of
+/// five means, in turns.
+fn times_of_questions(file: &[u8]) -> (Vec<(Question, Duration)>, Duration) {
+    let mut lesson = Lesson::fresh();
+    lesson.load(file).expect("the book loads");
+    let book = second::read(file).expect("the book loads");
+    let both = |literal| [Tree::T, Tree::TU].map(|tree| plain(tree, literal));
+    let mut times: Vec<_> = (0..book.literals())
+        .flat_map(both)
+        .map(|question| (question, Duration::MAX))
+        .collect();
+    let mut model = Duration::MAX;
+    for _ in 0..5 {
+        for (question, least) in &mut times {
+            let mut ask = || lesson.search(black_box(*question));
+            *least = mean_of(RUNS_OF_A_QUESTION, &mut ask).min(*least);
+        }
+        model = mean_of(RUNS_OF_A_CALL, &mut || lesson.model()).min(model);
+    }
+    (times, model)
 }
 
-/// Whether a deep search ends on a stack of this size, tried in a process of its own.
-fn ends_on(stack: usize, names: usize) -> bool {
+fn plain(tree: Tree, literal: usize) -> Question {
+    Question {
+        literal,
+        default: false,
+        tree,
+    }
+}
+
+/// The question that a word such as `TU17` names.
+fn question_named(word: &str) -> Question {
+    let (tree, literal) = match word.strip_prefix("TU") {
+        Some(rest) => (Tree::TU, rest),
+        None => (Tree::T, word.strip_prefix("T").expect("a call")),
+    };
+    plain(tree, literal.parse().expect("a literal's number"))
+}
+
+/// Makes a call on a thread with this stack, with the book loaded before. Where the stack is too small
+/// the process dies.
+fn call_on(call: &str, stack: usize) {
+    let file = match call {
+        "deep" => deep_file(),
+        _ => full_file(1),
+    };
+    let mut lesson = Lesson::fresh();
+    lesson.load(&file).expect("the book loads");
+    let mut buffer = vec![0; 8192];
+    let work = || match call {
+        "load" => lesson.load(&file),
+        "model" => lesson.model().map(drop),
+        "listing" => lesson.listing(&mut buffer).map(drop),
+        "deep" => lesson.search(plain(Tree::TU, 0)).map(drop),
+        _ => lesson.search(question_named(call)).map(drop),
+    };
+    thread::scope(|scope| {
+        let worker = thread::Builder::new()
+            .stack_size(stack)
+            .spawn_scoped(scope, work)
+            .expect("the system gives a thread with this stack");
+        let answer = worker.join().expect("the call ends");
+        answer.expect("the call isn't turned down");
+    });
+}
+
+/// Whether a call ends on a stack of this size, tried in a process of its own.
+fn ends_on(call: &str, stack: usize) -> bool {
     let this = env::current_exe().expect("the program knows its file");
     let status = Command::new(this)
-        .args(["deep", &stack.to_string(), &names.to_string()])
+        .args(["stack", call, &stack.to_string()])
         .stderr(Stdio::null())
         .status()
         .expect("the program starts again");
     status.success()
 }
 
-/// The least stack, to 4 KB, on which the deep search ends.
-fn least_stack(names: usize) -> usize {
+/// The least stack, to 4 KB, on which a call ends.
+fn least_stack(call: &str) -> usize {
     const STEP: usize = 4096;
-    let (mut too_small, mut enough) = (4, 32_000_000 / STEP);
-    assert!(ends_on(enough * STEP, names), "32 MB hold every search");
+    // No thread has less than 16 KB.
+    let (mut too_small, mut enough) = (3, 2048);
+    assert!(ends_on(call, enough * STEP), "8 MB hold every call");
     while enough - too_small > 1 {
         let middle = (too_small + enough) / 2;
-        if ends_on(middle * STEP, names) {
+        if ends_on(call, middle * STEP) {
             enough = middle;
         } else {
             too_small = middle;
@@ -267,27 +296,19 @@ fn least_stack(names: usize) -> usize {
 
 fn print_stack() {
     println!();
-    println!("| deep book | depth | least stack, bytes | bound for its heads, bytes |");
-    println!("|---|---|---|---|");
-    for names in [15, 30, 60] {
-        let book = gen::deep_book(names);
-        let depth = with_search_stack(|| depth_of(&Program::new(&book, &BTreeSet::new())));
-        let heads: BTreeSet<usize> = book.rules.iter().map(|rule| rule.head).collect();
-        let h = heads.len();
-        println!(
-            "| {names} and {names} names, {h} heads | {depth} | {} | {} |",
-            least_stack(names),
-            (h + 1) * (h + 1) * 384 + h * 288
-        );
+    println!("| call | least stack, bytes |");
+    println!("|---|---|");
+    for (label, call) in [
+        ("load of the full random book", "load"),
+        ("model of the full random book", "model"),
+        ("listing of the full random book", "listing"),
+        ("search of the deep book, 60 and 60 names", "deep"),
+    ] {
+        println!("| {label} | {} |", least_stack(call));
     }
-}
-
-fn depth_of(program: &Program) -> usize {
-    let mut walk = Walk::new(program, u64::MAX);
-    walk.ask(Question {
-        literal: 0,
-        default: false,
-        tree: Tree::TU,
-    });
-    walk.deepest
+    let (times, _) = times_of_questions(&full_file(1));
+    let slowest = times.into_iter().max_by_key(|(_, time)| *time);
+    let (Question { tree, literal, .. }, _) = slowest.expect("a book has questions");
+    let least = least_stack(&format!("{tree:?}{literal}"));
+    println!("| the full random book's slowest search: {tree:?}, literal {literal} | {least} |");
 }

@@ -4,7 +4,7 @@ use super::book::Book;
 use super::listing::listing;
 use super::model::{contradictory_name, verdict, Program};
 use super::reader::read;
-use super::trees::{search, trees_are_small};
+use super::trees::search;
 use crate::answer::{Model, Question, Refused, Verdict};
 use std::collections::BTreeSet;
 
@@ -63,18 +63,11 @@ impl Lesson {
         Ok(verdict(&halves, literal))
     }
 
-    /// The answer to a question, or nothing where its trees have more nodes than `visits`.
+    /// The answer to a question, or nothing where the walk of its trees takes more than `visits`.
     pub fn search(&self, question: Question, visits: u64) -> Result<Option<bool>, Refused> {
         let book = self.book_with(question.literal)?;
         let program = Program::new(book, &self.facts);
         Ok(search(&program, question, visits))
-    }
-
-    /// Whether a walk of the question's trees ends within so many visits, in whatever order it goes.
-    pub fn search_is_short(&self, question: Question, visits: u64) -> Result<bool, Refused> {
-        let book = self.book_with(question.literal)?;
-        let program = Program::new(book, &self.facts);
-        Ok(trees_are_small(&program, question, visits))
     }
 
     pub fn model(&self) -> Result<Model, Refused> {

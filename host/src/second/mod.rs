@@ -18,4 +18,4 @@ pub use desk::Lesson;
 pub use listing::{listing, program_output};
 pub use model::{contradictory_name, gamma, verdict, Halves, Program};
 pub use reader::read;
-pub use trees::{search, trees_are_small, Walk};
+pub use trees::{search, Walk};

@@ -4,28 +4,15 @@ use super::book::{complement, Entry, Rule};
 use super::model::Program;
 use crate::answer::{Question, Tree};
 
-/// The answer to a question, or nothing where its trees have more nodes than `visits`.
+/// The answer to a question, or nothing where the walk of its trees takes more than `visits`.
 pub fn search(program: &Program, question: Question, visits: u64) -> Option<bool> {
     Walk::new(program, visits).ask(question)
-}
-
-/// Whether all trees of a question have at most so many nodes together: then a walk ends within so many
-/// visits, in whatever order it goes and whatever it leaves out.
-pub fn trees_are_small(program: &Program, question: Question, nodes: u64) -> bool {
-    let entry = Entry {
-        literal: question.literal,
-        default: question.default,
-    };
-    let mut walk = Walk::new(program, nodes);
-    walk.count(entry, &Place::root(question.tree)).is_some()
 }
 
 /// A walk of the pruned trees of one program.
 pub struct Walk<'a> {
     program: &'a Program,
     visits_left: u64,
-    /// How many nodes were visited.
-    pub visits: u64,
     /// How many nodes stood above each other at most, over all trees.
     pub deepest: usize,
 }
@@ -92,7 +79,6 @@ impl<'a> Walk<'a> {
         Walk {
             program,
             visits_left: visits,
-            visits: 0,
             deepest: 0,
         }
     }
@@ -108,7 +94,6 @@ impl<'a> Walk<'a> {
 
     fn visit(&mut self, place: &Place) -> Option<()> {
         self.visits_left = self.visits_left.checked_sub(1)?;
-        self.visits += 1;
         self.deepest = self.deepest.max(place.depth + 1);
         Some(())
     }
@@ -172,40 +157,5 @@ impl<'a> Walk<'a> {
             default: false,
         };
         self.holds(entry, place)
-    }
-
-    /// Visits every node of every tree, whatever holds.
-    fn count(&mut self, entry: Entry, place: &Place) -> Option<()> {
-        self.visit(place)?;
-        let objective = |literal| Entry {
-            literal,
-            default: false,
-        };
-        if entry.default {
-            let (a, other) = (entry.literal, complement(entry.literal));
-            if place.tree == Tree::T {
-                self.count(objective(a), &place.opened(Tree::TU))?;
-                return self.count(objective(other), &place.opened(Tree::T));
-            }
-            return self.count(objective(a), &place.opened(Tree::T));
-        }
-        if place.prunes(entry.literal) {
-            return Some(());
-        }
-        let program = self.program;
-        let below = place.below(entry.literal);
-        let added = Entry {
-            literal: complement(entry.literal),
-            default: true,
-        };
-        for rule in program.rules.iter().filter(|r| r.head == entry.literal) {
-            for &child in &rule.body {
-                self.count(child, &below)?;
-            }
-            if place.tree == Tree::TU {
-                self.count(added, &below)?;
-            }
-        }
-        Some(())
     }
 }
