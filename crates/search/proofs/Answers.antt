@@ -22,85 +22,67 @@ use Rattle.search.proofs.Marks.{marked-is}
 
 -- ---- set by set
 
-module _ {P : Program} {S F X K G H : Set} (r : Right P S F X K G H) where
+module _ {P : Program} {S F X G H : Set} (r : Right P S F X G H) where
   -- one more holds in T-trees
-  pub right-proved : (a : ℕ) → a ∈ tree P T ∅ ∅ → Right P (add a S) F X K G H
+  pub right-proved : (a : ℕ) → a ∈ tree P T ∅ ∅ → Right P (add a S) F X G H
   right-proved a h =
       record {
         proved-right = with-one (λ A. A ∈ tree P T ∅ ∅) a S h (r .proved-right);
         failed-right = r .failed-right;
-        never-right = r .never-right;
         false-right = r .false-right;
         held-right = r .held-right;
-        never-marked = r .never-marked;
-        false-marked = r .false-marked;
       }
 
   -- one more T-ancestor
-  pub right-down : (a : ℕ) → Right P S F (add a X) K G H
+  pub right-down : (a : ℕ) → Right P S F (add a X) G H
   right-down a =
       record {
         proved-right = r .proved-right;
         failed-right = λ A m. contra (t-fewer P (⊆-add a X) A) (r .failed-right A m);
-        never-right = r .never-right;
         false-right = r .false-right;
         held-right = λ A m. u-wider P ∅ (⊆-add a X) A (r .held-right A m);
-        never-marked = r .never-marked;
-        false-marked = r .false-marked;
       }
 
   -- more fail in TU-trees
-  pub right-false : (L : Set) → G ⊆ L → ((A : ℕ) → A ∈ L → A ∉ tree P TU ∅ ∅) → Right P S F X K L H
-  right-false L more k =
+  pub right-false : (L : Set) → ((A : ℕ) → A ∈ L → A ∉ tree P TU ∅ ∅) → Right P S F X L H
+  right-false L k =
       record {
         proved-right = r .proved-right;
         failed-right = r .failed-right;
-        never-right = r .never-right;
         false-right = k;
         held-right = r .held-right;
-        never-marked = r .never-marked;
-        false-marked = λ A l n. more A (r .false-marked A l n);
       }
 
   -- one more holds in TU-trees
-  pub right-held : (a : ℕ) → a ∈ tree P TU ∅ X → Right P S F X K G (add a H)
+  pub right-held : (a : ℕ) → a ∈ tree P TU ∅ X → Right P S F X G (add a H)
   right-held a h =
       record {
         proved-right = r .proved-right;
         failed-right = r .failed-right;
-        never-right = r .never-right;
         false-right = r .false-right;
         held-right = with-one (λ A. A ∈ tree P TU ∅ X) a H h (r .held-right);
-        never-marked = r .never-marked;
-        false-marked = r .false-marked;
       }
 
-module _ (P : Program) (S F X K G H : Set) (a : ℕ) (r : Right P S F (add a X) K G H) where
+module _ (P : Program) (S F X G H : Set) (a : ℕ) (r : Right P S F (add a X) G H) where
   -- the ancestor fails
-  pub right-failed : a ∉ tree P T ∅ X → Right P S (add a F) X K G H
+  pub right-failed : a ∉ tree P T ∅ X → Right P S (add a F) X G H
   right-failed n =
       let same = t-agrees P X a n in
       record {
         proved-right = r .proved-right;
         failed-right = with-one (λ A. A ∉ tree P T ∅ X) a F n (λ A m. rw (← same) (r .failed-right A m));
-        never-right = r .never-right;
         false-right = r .false-right;
         held-right = λ A m. rw (← u-same P ∅ (add a X) X same) (r .held-right A m);
-        never-marked = r .never-marked;
-        false-marked = r .false-marked;
       }
 
   -- the ancestor holds
-  pub right-passed : (F′ H′ : Set) → a ∈ tree P T ∅ ∅ → ((A : ℕ) → A ∉ F′) → ((A : ℕ) → A ∉ H′) → Right P (add a S) F′ X K G H′
+  pub right-passed : (F′ H′ : Set) → a ∈ tree P T ∅ ∅ → ((A : ℕ) → A ∉ F′) → ((A : ℕ) → A ∉ H′) → Right P (add a S) F′ X G H′
   right-passed F′ H′ h f k =
       record {
         proved-right = with-one (λ A. A ∈ tree P T ∅ ∅) a S h (r .proved-right);
         failed-right = λ A m. absurd (clash m (f A));
-        never-right = r .never-right;
         false-right = r .false-right;
         held-right = λ A m. absurd (clash m (k A));
-        never-marked = r .never-marked;
-        false-marked = r .false-marked;
       }
 
 -- ---- what a mark says
@@ -112,16 +94,15 @@ module _ {P : Program} {t u : List ℕ} (h : Tables P t u) (a : ℕ) where
   pub t-holds : getD t a 0 ≡ 1 → a ∈ tree P T ∅ ∅
   t-holds e = h .right .proved-right a (marked-is 1 t a e)
 
-  -- any other mark: it failed, is an ancestor, or never holds
+  -- any other mark: it failed, or is an ancestor
   pub t-not : (getD t a 0 ≡ 1 → ⊥) → (getD t a 0 ≡ 0 → ⊥) → a ∉ tree P T ∅ (aboveIn t)
-  t-not n z = go (ℕ-discrete (getD t a 0) 2) (ℕ-discrete (getD t a 0) 3)
+  t-not n z = go (ℕ-discrete (getD t a 0) 2)
     where
-      go : Dec (getD t a 0 ≡ 2) → Dec (getD t a 0 ≡ 3) → a ∉ tree P T ∅ (aboveIn t)
-      go (yes e) d = h .right .failed-right a (marked-is 2 t a e)
-      go (no e) (yes d) = one-set-unfolds P (aboveIn t) a ∙ rw (marked-is 3 t a d) refl
-      go (no e) (no d) =
-          let four : getD t a 0 ≡ 4 = omega (arith, h .t-marks a) in
-          contra (t-fewer P (none (aboveIn t)) a) (h .right .never-right a (marked-is 4 t a four))
+      go : Dec (getD t a 0 ≡ 2) → a ∉ tree P T ∅ (aboveIn t)
+      go (yes e) = h .right .failed-right a (marked-is 2 t a e)
+      go (no e) =
+          let three : getD t a 0 ≡ 3 = omega (arith, h .t-marks a) in
+          one-set-unfolds P (aboveIn t) a ∙ rw (marked-is 3 t a three) refl
 
   pub u-holds : getD u a 0 ≡ 2 → a ∈ tree P TU ∅ (aboveIn t)
   u-holds e = h .right .held-right a (marked-is 2 u a e)

@@ -7,6 +7,7 @@ use lib.ListN.{getD}
 use Rattle.truth.proofs.Truth.{clash, not-intro}
 use Rattle.wfsx.specs.Sets.{Set, ∅}
 use Rattle.wfsx.specs.Program.{Program}
+use Rattle.wfsx.specs.Model.{headed}
 use Rattle.wfsx.specs.Trees.{T, TU, tree}
 use Rattle.wfsx.proofs.Trees.{first-way}
 use Rattle.litset.specs.Words.{capacity}
@@ -16,7 +17,7 @@ use Rattle.search.specs.declared.Tree.{Tree}
 use Rattle.search.specs.declared.Finding.{Finding}
 use Rattle.search.specs.Questions.{treeOf}
 use Rattle.search.specs.Marks.{aboveIn, found, leafSays}
-use Rattle.search.specs.Walk.{State, Resting, headCount, Ready, Says, Visited, Settled, TVisit, TuVisit, TuSearch, sureAt, mayAt}
+use Rattle.search.specs.Walk.{State, Ready, Says, Visited, Settled, TVisit, TuVisit, TuSearch, sureAt, mayAt}
 use Rattle.search.proofs.Visits.{paid-holds, paid-fails}
 use Rattle.search.proofs.TuNodes.{leaf-visit}
 
@@ -59,7 +60,7 @@ module _ {P : Program} {s s′ : State} (k : Tree) (e : Entry) (b : ℕ) where
   unfolding sureAt mayAt
   TU-positive p q f x = rw (p, q) (x .visited)
 
-pub TU-default : {P : Program} {s : State} (k : Tree) (e : Entry) (b : ℕ) → k ≡ Tree.Tu → e ≡ Entry.Default b → b < capacity → Ready P (treeOf k) s 0
-    → Visited P (treeOf k) s s (sureAt P (treeOf k) s (entryIs e)) (mayAt P (treeOf k) s (entryIs e)) (leafSays (getD (s .t) b 0) b)
+pub TU-default : {P : Program} {s : State} (k : Tree) (e : Entry) (b : ℕ) → k ≡ Tree.Tu → e ≡ Entry.Default b → b < capacity → (head : Bool) → headed P b ≡ head → Ready P (treeOf k) s 0
+    → Visited P (treeOf k) s s (sureAt P (treeOf k) s (entryIs e)) (mayAt P (treeOf k) s (entryIs e)) (leafSays head (getD (s .t) b 0) b)
 unfolding sureAt mayAt
-TU-default {P} {s} k e b p q small r = rw (p, q) (leaf-visit (ready-TU k r p) b small (λ _ n. not-intro n) (λ m. ap not m))
+TU-default {P} {s} k e b p q small head heads r = rw (p, q) (leaf-visit (ready-TU k r p) b small head heads (λ _ n. not-intro n) (λ m. ap not m))

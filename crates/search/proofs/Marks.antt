@@ -1,7 +1,7 @@
 -- Laws of a table of marks: a mark set, a mark turned into another, a table filled place by place, and how many marks pass a test.
 use mathlib.Core.Path.{_≡_, refl, sym, _∙_, ap, fun-ext}
 use mathlib.Core.Logic.{_⊎_, inl, inr}
-use mathlib.Core.Bool.{Bool, true, false, not, cond, _||_}
+use mathlib.Core.Bool.{Bool, true, false, not, cond, _&&_, _||_}
 use mathlib.Core.List.{List, [], _∷_}
 use Prim.Native.Nat.{ℕ, zero, suc, _+_, _≤_, _<_}
 use native.Mathlib.Omega.{arith}
@@ -11,13 +11,10 @@ use lib.Dec.{eqb}
 use lib.ListN.{length, getD, set, length-set, length-map}
 use lib.Seq.{getD-set-same, getD-set-other, ext-getD}
 use borrow.Author.Tests.{eqb-true, eq-eqb, ne-eqb}
-use Rattle.truth.proofs.Truth.{clash, decided}
+use Rattle.truth.proofs.Truth.{clash, and-l, and-r, and-intro}
 use Rattle.wfsx.specs.Sets.{Set, _∈_, _∉_, add, membersFrom}
-use Rattle.wfsx.proofs.Members.{length-first}
-use Rattle.litset.specs.Words.{capacity}
-use Rattle.book.proofs.Rows.{rows-length}
-use Rattle.index.proofs.Placed.{rows-at}
-use Rattle.search.specs.Marks.{marked, outsideMarked, turned, turnedIn, count, others}
+use Rattle.wfsx.proofs.Members.{length-first, length-most}
+use Rattle.search.specs.Marks.{marked, turned, turnedIn, countFrom, count, others}
 
 -- ---- which literals are marked
 
@@ -151,86 +148,80 @@ module _ (f : ℕ → ℕ) (s : List ℕ) (i : ℕ) (s′ : List ℕ) (h : Fille
   pub filled-is : (r : List ℕ) → length r ≡ length s → ((A : ℕ) → A < length s → getD r A 0 ≡ f A) → s′ ≡ r
   filled-is r l e = ext-getD 0 s′ r (h .room ∙ sym l) (λ A k. h .done A (omega (arith, h .room)) ∙ sym (e A (omega (arith, h .room))))
 
-pub outside-room : (v : ℕ) (S : Set) → length (outsideMarked v S) ≡ capacity
-outside-room v S = rows-length (λ A. cond (S A) 0 v) 0 capacity
-
-pub outside-at : (v : ℕ) (S : Set) (A : ℕ) → A < capacity → getD (outsideMarked v S) A 0 ≡ cond (S A) 0 v
-outside-at v S A h = rows-at (λ B. cond (S B) 0 v) capacity A h
-
 -- ---- how many marks pass a test
 
-module _ (test : ℕ → Bool) where
-  pub count-set-same : (s : List ℕ) (a w : ℕ) → test w ≡ test (getD s a 0) → count test (set s a w) ≡ count test s
-  unfolding count
-  count-set-same [] a w e = refl
-  count-set-same (x ∷ s) zero w e = rw e refl
-  count-set-same (x ∷ s) (suc a) w e = rw (count-set-same s a w e) refl
+module _ (S : Set) (test : ℕ → Bool) where
+  pub count-set-same : (k : ℕ) (s : List ℕ) (a w : ℕ) → test w ≡ test (getD s a 0) → countFrom S test k (set s a w) ≡ countFrom S test k s
+  unfolding countFrom
+  count-set-same k [] a w e = refl
+  count-set-same k (x ∷ s) zero w e = rw e refl
+  count-set-same k (x ∷ s) (suc a) w e = rw (count-set-same (suc k) s a w e) refl
 
-  pub count-set-less : (s : List ℕ) (a w : ℕ) → a < length s → test (getD s a 0) ≡ true → test w ≡ false → count test (set s a w) < count test s
-  unfolding count
-  count-set-less [] a w l e n = absurd (omega arith)
-  count-set-less (x ∷ s) zero w l e n = rw (e, n) (omega arith)
-  count-set-less (x ∷ s) (suc a) w l e n = go (test x) (count-set-less s a w (omega arith) e n)
+  pub count-set-less : (k : ℕ) (s : List ℕ) (a w : ℕ) → a < length s → k + a ∈ S → test (getD s a 0) ≡ true → test w ≡ false → countFrom S test k (set s a w) < countFrom S test k s
+  unfolding countFrom
+  count-set-less k [] a w l m e n = absurd (omega arith)
+  count-set-less k (x ∷ s) zero w l m e n = let here : k + 0 ≡ k = omega arith in rw (rw here at m, e, n) (omega arith)
+  count-set-less k (x ∷ s) (suc a) w l m e n =
+      let there : k + suc a ≡ suc k + a = omega arith in
+      go (S k && test x) (count-set-less (suc k) s a w (omega arith) (rw there at m) e n)
     where
-      go : (b : Bool) → count test (set s a w) < count test s → cond b (suc (count test (set s a w))) (count test (set s a w)) < cond b (suc (count test s)) (count test s)
+      go : (b : Bool) → countFrom S test (suc k) (set s a w) < countFrom S test (suc k) s
+          → cond b (suc (countFrom S test (suc k) (set s a w))) (countFrom S test (suc k) (set s a w)) < cond b (suc (countFrom S test (suc k) s)) (countFrom S test (suc k) s)
       go true i = omega arith
       go false i = i
 
-  pub count-turned-same : (from to : ℕ) → test to ≡ test from → (s : List ℕ) → count test (turnedIn from to s) ≡ count test s
-  unfolding count
-  count-turned-same from to e [] = refl
-  count-turned-same from to e (x ∷ s) = rw (count-turned-same from to e s, go (ℕ-discrete x from)) refl
+  pub count-turned-same : (from to : ℕ) → test to ≡ test from → (k : ℕ) (s : List ℕ) → countFrom S test k (turnedIn from to s) ≡ countFrom S test k s
+  unfolding countFrom
+  count-turned-same from to e k [] = refl
+  count-turned-same from to e k (x ∷ s) = rw (count-turned-same from to e (suc k) s, go (ℕ-discrete x from)) refl
     where
       go : Dec (x ≡ from) → test (turned from to x) ≡ test x
       go (yes q) = rw (turned-is from to x q, q) e
       go (no q) = rw (turned-other from to x q) refl
 
-  pub count-turned-le : (from to : ℕ) → test to ≡ false → (s : List ℕ) → count test (turnedIn from to s) ≤ count test s
-  unfolding count
-  count-turned-le from to e [] = omega arith
-  count-turned-le from to e (x ∷ s) = go (ℕ-discrete x from) (count-turned-le from to e s)
+  pub count-turned-le : (from to : ℕ) → test to ≡ false → (k : ℕ) (s : List ℕ) → countFrom S test k (turnedIn from to s) ≤ countFrom S test k s
+  unfolding countFrom
+  count-turned-le from to e k [] = omega arith
+  count-turned-le from to e k (x ∷ s) = go (ℕ-discrete x from) (count-turned-le from to e (suc k) s)
     where
-      more : (b c : Bool) → (c ≡ true → b ≡ true) → count test (turnedIn from to s) ≤ count test s
-          → cond c (suc (count test (turnedIn from to s))) (count test (turnedIn from to s)) ≤ cond b (suc (count test s)) (count test s)
+      more : (b c : Bool) → (c ≡ true → b ≡ true) → countFrom S test (suc k) (turnedIn from to s) ≤ countFrom S test (suc k) s
+          → cond c (suc (countFrom S test (suc k) (turnedIn from to s))) (countFrom S test (suc k) (turnedIn from to s)) ≤ cond b (suc (countFrom S test (suc k) s)) (countFrom S test (suc k) s)
       more true true f l = omega arith
       more true false f l = omega arith
       more false true f l = absurd (clash (f refl) refl)
       more false false f l = l
 
-      go : Dec (x ≡ from) → count test (turnedIn from to s) ≤ count test s → count test (turnedIn from to (x ∷ s)) ≤ count test (x ∷ s)
-      go (yes q) l = more (test x) (test (turned from to x)) (λ t. absurd (clash t (ap test (turned-is from to x q) ∙ e))) l
-      go (no q) l = more (test x) (test (turned from to x)) (λ t. ap test (sym (turned-other from to x q)) ∙ t) l
+      fewer : (test (turned from to x) ≡ true → test x ≡ true) → S k && test (turned from to x) ≡ true → S k && test x ≡ true
+      fewer f h = and-intro (S k) (test x) (and-l (S k) (test (turned from to x)) h) (f (and-r (S k) (test (turned from to x)) h))
 
-  -- at most as many as a set has members, where only members pass
-  pub count-within : (S : Set) (b : ℕ) (s : List ℕ) → ((A : ℕ) → A < length s → test (getD s A 0) ≡ true → b + A ∈ S) → count test s ≤ length (membersFrom S b (length s))
-  unfolding count
-  count-within S b [] h = omega arith
-  count-within S b (x ∷ s) h =
-      rw (length-first S b (length s)) (go (test x) (S b) (λ e. let here : b + 0 ≡ b = omega arith in rw here at (h 0 (omega arith) e))
-      (count-within S (suc b) s (λ A l e. let there : b + suc A ≡ suc b + A = omega arith in rw there at (h (suc A) (omega arith) e))))
-    where
-      go : (p q : Bool) → (p ≡ true → q ≡ true) → count test s ≤ length (membersFrom S (suc b) (length s))
-          → cond p (suc (count test s)) (count test s) ≤ cond q 1 0 + length (membersFrom S (suc b) (length s))
-      go true true f l = omega arith
-      go true false f l = absurd (clash (f refl) refl)
-      go false true f l = omega arith
-      go false false f l = omega arith
+      go : Dec (x ≡ from) → countFrom S test (suc k) (turnedIn from to s) ≤ countFrom S test (suc k) s → countFrom S test k (turnedIn from to (x ∷ s)) ≤ countFrom S test k (x ∷ s)
+      go (yes q) l = more (S k && test x) (S k && test (turned from to x)) (fewer (λ t. absurd (clash t (ap test (turned-is from to x q) ∙ e)))) l
+      go (no q) l = more (S k && test x) (S k && test (turned from to x)) (fewer (λ t. ap test (sym (turned-other from to x q)) ∙ t)) l
 
-  pub count-most : (s : List ℕ) → count test s ≤ length s
-  unfolding count
-  count-most [] = omega arith
-  count-most (x ∷ s) = go (test x) (count-most s)
+  -- at most as many as the set has members
+  pub count-within : (k : ℕ) (s : List ℕ) → countFrom S test k s ≤ length (membersFrom S k (length s))
+  unfolding countFrom
+  count-within k [] = omega arith
+  count-within k (x ∷ s) = rw (length-first S k (length s)) (go (S k) (test x) (count-within (suc k) s))
     where
-      go : (b : Bool) → count test s ≤ length s → cond b (suc (count test s)) (count test s) ≤ suc (length s)
-      go true l = omega arith
-      go false l = omega arith
+      go : (p q : Bool) → countFrom S test (suc k) s ≤ length (membersFrom S (suc k) (length s))
+          → cond (p && q) (suc (countFrom S test (suc k) s)) (countFrom S test (suc k) s) ≤ cond p 1 0 + length (membersFrom S (suc k) (length s))
+      go true true l = omega arith
+      go true false l = omega arith
+      go false q l = omega arith
+
+  pub count-most : (s : List ℕ) → count S test s ≤ length s
+  count-most s = omega (arith, count-within 0 s, length-most S 0 (length s))
 
 -- as many lack a mark where the same literals have it
-pub others-same : (v : ℕ) (s s′ : List ℕ) → length s ≡ length s′ → marked v s ≡ marked v s′ → others v s ≡ others v s′
-unfolding count marked
-others-same v [] [] l e = refl
-others-same v [] (y ∷ s′) l e = absurd (omega arith)
-others-same v (x ∷ s) [] l e = absurd (omega arith)
-others-same v (x ∷ s) (y ∷ s′) l e =
-    let first : eqb x v ≡ eqb y v = ap (λ (S : Set). S 0) e in
-    rw (first, others-same v s s′ (suc-inj l) (fun-ext (λ A. ap (λ (S : Set). S (suc A)) e))) refl
+others-from : (v : ℕ) (S : Set) (k : ℕ) (s s′ : List ℕ) → length s ≡ length s′ → marked v s ≡ marked v s′ → countFrom S (λ x. not (eqb x v)) k s ≡ countFrom S (λ x. not (eqb x v)) k s′
+unfolding countFrom marked
+others-from v S k [] [] l e = refl
+others-from v S k [] (y ∷ s′) l e = absurd (omega arith)
+others-from v S k (x ∷ s) [] l e = absurd (omega arith)
+others-from v S k (x ∷ s) (y ∷ s′) l e =
+    let first : eqb x v ≡ eqb y v = ap (λ (U : Set). U 0) e in
+    rw (first, others-from v S (suc k) s s′ (suc-inj l) (fun-ext (λ A. ap (λ (U : Set). U (suc A)) e))) refl
+
+pub others-same : (v : ℕ) (S : Set) (s s′ : List ℕ) → length s ≡ length s′ → marked v s ≡ marked v s′ → others v S s ≡ others v S s′
+others-same v S = others-from v S 0

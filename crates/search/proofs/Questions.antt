@@ -1,17 +1,14 @@
--- The question: nothing stands above it, so what a walk is sure of and what may be are the same. The tables begin with the literals that are no heads marked, and the index gives
--- the rules of the book.
+-- The question: nothing stands above it, so what a walk is sure of and what may be are the same. The tables begin without a mark, and the index gives the rules of the book.
 use mathlib.Core.Path.{_≡_, refl, sym, _∙_, ap, fun-ext, subst}
-use mathlib.Core.Logic.{_⊎_, inl, inr, ⊎-elim}
 use mathlib.Core.Bool.{Bool, true, false, not, cond, _||_, and-false}
 use mathlib.Core.List.{List}
-use Prim.Native.Nat.{ℕ, _+_, _≤_, _<_}
+use Prim.Native.Nat.{ℕ, zero, suc, _+_, _≤_, _<_}
 use native.Mathlib.Decide.{decLt}
 use native.Mathlib.Omega.{arith}
 use lib.Dec.{eqb, ltb}
-use lib.ListN.{length, getD, List·getD-eq-default}
+use lib.ListN.{length, getD, replicate, length-replicate}
 use borrow.Author.Tests.{lt-ltb, le-ltb}
 use Rattle.truth.proofs.Truth.{clash, refuted, or-none}
-use Rattle.truth.proofs.Truth as truth
 use Rattle.wfsx.specs.Sets.{Set, _∈_, _∉_, ∅, members}
 use Rattle.wfsx.specs.Program.{compl, Entry, positive, default, Program}
 use Rattle.wfsx.specs.Model.{supported, headed}
@@ -30,9 +27,10 @@ use Rattle.index.specs.declared.Index.{Index}
 use Rattle.index.proofs.Walks.{rules-some, rules-none, supported-below, indexed-same}
 use Rattle.search.specs.declared.Tree as declared
 use Rattle.search.specs.Questions.{treeOf, questionOf, decidedBy}
-use Rattle.search.specs.Marks.{marked, aboveIn, outsideMarked}
-use Rattle.search.specs.Walk.{State, state, programBy, headIn, Tables, Resting, headCount, mostVisits, leftIn, Paid, Ready, Settled, TVisit, TuSearch}
-use Rattle.search.proofs.Marks.{marked-is, marked-at, marked-not, outside-room, outside-at}
+use Rattle.search.specs.Bound.{headCount, mostVisits}
+use Rattle.search.specs.Marks.{marked, aboveIn}
+use Rattle.search.specs.Walk.{State, state, programBy, ruleIn, headIn, Resting, Paid, Ready, TVisit, TuSearch}
+use Rattle.search.proofs.Marks.{marked-not}
 use Rattle.search.proofs.Answers.{Joined}
 use Rattle.search.proofs.Stock.{left-most}
 
@@ -67,62 +65,42 @@ module _ (firsts rules starts entries facts : List ℕ) (long : length facts ≡
       go (yes h) b = rw (rules-some firsts rules starts entries A h, lt-ltb (rulesStart firsts A) (rulesEnd firsts rules A) h) (or-swap true b)
       go (no h) b = rw (rules-none firsts rules starts entries A (λ e. true) (omega arith), le-ltb (rulesStart firsts A) (rulesEnd firsts rules A) (omega arith)) (or-swap false b)
 
-  -- ---- the tables at the start
+  -- as the walk finds it
+  pub headed-by : (A : ℕ) → A < capacity → (fact r : Bool) → fact ≡ setOf facts A → r ≡ (fact || ruleIn firsts rules A) → headed P A ≡ r
+  headed-by A small fact r e q = headed-is A small ∙ ap (λ (b : Bool). b || ruleIn firsts rules A) (sym e) ∙ sym q
 
-  abbrev heads : Set
-  heads = headIn firsts rules facts
+-- ---- tables in which nothing stands
 
-  -- a mark stands at a literal that is no head, and nowhere else
-  mark-cases : (v A : ℕ) → (getD (outsideMarked v heads) A 0 ≡ 0) ⊎ ((A ∉ headed P) × (getD (outsideMarked v heads) A 0 ≡ v))
-  mark-cases v A = go (decLt A capacity) (truth.decided (heads A))
-    where
-      go : Dec (A < capacity) → (A ∈ heads) ⊎ (A ∉ heads) → (getD (outsideMarked v heads) A 0 ≡ 0) ⊎ ((A ∉ headed P) × (getD (outsideMarked v heads) A 0 ≡ v))
-      go (yes h) (inl m) = inl (outside-at v heads A h ∙ ap (λ (b : Bool). cond b 0 v) m)
-      go (yes h) (inr m) = inr (headed-is A h ∙ m, outside-at v heads A h ∙ ap (λ (b : Bool). cond b 0 v) m)
-      go (no h) d = inl (List·getD-eq-default (outsideMarked v heads) 0 (omega (arith, outside-room v heads)))
+blank : (n A : ℕ) → getD {A = ℕ} (replicate n 0) A 0 ≡ 0
+blank zero A = refl
+blank (suc n) zero = refl
+blank (suc n) (suc A) = blank n A
 
-  -- so no other mark stands anywhere
-  unmarked : (v w A : ℕ) → (w ≡ 0 → ⊥) → (v ≡ w → ⊥) → A ∉ marked w (outsideMarked v heads)
-  unmarked v w A n m = marked-not w (outsideMarked v heads) A (λ e. ⊎-elim (λ z. n (sym e ∙ z)) (λ k. m (sym (k .1) ∙ e)) (mark-cases v A))
+unmarked : (v : ℕ) → 0 < v → (A : ℕ) → A ∉ marked v (replicate capacity 0)
+unmarked v h A = marked-not v (replicate capacity 0) A (λ e. let z : getD {A = ℕ} (replicate capacity 0) A 0 ≡ 0 = blank capacity A in omega arith)
 
-  headless-at : (v A : ℕ) → (v ≡ 0 → ⊥) → A ∈ marked v (outsideMarked v heads) → A ∉ headed P
-  headless-at v A n m = ⊎-elim (λ z. absurd (n (sym (marked-at v (outsideMarked v heads) A m) ∙ z))) (λ k. k .0) (mark-cases v A)
-
-  headless-marked : (v A : ℕ) → A < capacity → A ∉ headed P → A ∈ marked v (outsideMarked v heads)
-  headless-marked v A h n = marked-is v (outsideMarked v heads) A (outside-at v heads A h ∙ ap (λ (b : Bool). cond b 0 v) (sym (headed-is A h) ∙ n))
-
-  small-marks : (v n : ℕ) → v ≤ n → (A : ℕ) → getD (outsideMarked v heads) A 0 ≤ n
-  small-marks v n l A = ⊎-elim (λ z. omega (arith, z)) (λ k. omega (arith, k .1)) (mark-cases v A)
-
-  first-tables : Tables P (outsideMarked 4 heads) (outsideMarked 1 heads)
-  first-tables =
+pub first-ready : (P : Program) → Ready P T (state (replicate capacity 0) (replicate capacity 0) 0) 0 × (aboveIn (replicate capacity 0) ≡ ∅)
+unfolding Resting
+first-ready P =
+    let long : length {A = ℕ} (replicate capacity 0) ≡ capacity = length-replicate {A = ℕ} capacity 0 in (
       record {
-        t-room = outside-room 4 heads;
-        u-room = outside-room 1 heads;
-        t-marks = small-marks 4 4 (omega arith);
-        u-marks = small-marks 1 4 (omega arith);
-        right = record {
-          proved-right = λ A m. absurd (clash m (unmarked 4 1 A (λ e. omega arith) (λ e. omega arith)));
-          failed-right = λ A m. absurd (clash m (unmarked 4 2 A (λ e. omega arith) (λ e. omega arith)));
-          never-right = λ A m. t-headless P ∅ A (headless-at 4 A (λ e. omega arith) m);
-          false-right = λ A m. u-headless P ∅ ∅ A (headless-at 1 A (λ e. omega arith) m);
-          held-right = λ A m. absurd (clash m (unmarked 1 2 A (λ e. omega arith) (λ e. omega arith)));
-          never-marked = headless-marked 4;
-          false-marked = headless-marked 1;
+        tables = record {
+          t-room = long;
+          u-room = long;
+          t-marks = λ A. let z : getD {A = ℕ} (replicate capacity 0) A 0 ≡ 0 = blank capacity A in omega arith;
+          u-marks = λ A. let z : getD {A = ℕ} (replicate capacity 0) A 0 ≡ 0 = blank capacity A in omega arith;
+          right = record {
+            proved-right = λ A m. absurd (clash m (unmarked 1 (omega arith) A));
+            failed-right = λ A m. absurd (clash m (unmarked 2 (omega arith) A));
+            false-right = λ A m. absurd (clash m (unmarked 1 (omega arith) A));
+            held-right = λ A m. absurd (clash m (unmarked 2 (omega arith) A));
+          };
         };
-      }
-
-  pub first-ready : (t u : List ℕ) → t ≡ outsideMarked 4 heads → u ≡ outsideMarked 1 heads → Ready P T (state t u 0) 0 × (aboveIn t ≡ ∅)
-  unfolding Resting
-  first-ready t u e q =
-      rw (e, q) (
-        record {
-          tables = first-tables;
-          resting = λ A. let l = small-marks 1 1 (omega arith) A in omega arith;
-          room = omega (arith, left-most P (outsideMarked 4 heads) (outsideMarked 1 heads) first-tables);
-        },
-        ⊆-antisym (λ A m. absurd (clash m (unmarked 4 3 A (λ e. omega arith) (λ e. omega arith)))) (λ A m. absurd (clash m refl)),
-      )
+        resting = λ A. let z : getD {A = ℕ} (replicate capacity 0) A 0 ≡ 0 = blank capacity A in omega arith;
+        room = omega (arith, left-most P (replicate capacity 0) (replicate capacity 0) long long);
+      },
+      ⊆-antisym (λ A m. absurd (clash m (unmarked 3 (omega arith) A))) (λ A m. absurd (clash m refl)),
+    )
 
 -- ---- the root of a tree
 

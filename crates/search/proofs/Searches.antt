@@ -10,13 +10,15 @@ use lib.ListN.{length, getD}
 use Rattle.truth.proofs.Truth.{clash}
 use Rattle.wfsx.specs.Sets.{Set, _∈_, _∉_, _⊆_, ∅}
 use Rattle.wfsx.specs.Program.{Program}
+use Rattle.wfsx.specs.Model.{headed}
 use Rattle.wfsx.specs.Trees.{T, TU, tree}
 use Rattle.wfsx.proofs.Sets.{⊆-antisym}
 use Rattle.litset.specs.Words.{capacity}
 use Rattle.search.specs.declared.Finding.{Finding}
+use Rattle.search.specs.Bound.{headCount}
 use Rattle.search.specs.Marks.{marked, aboveIn, pathIn, turnedIn}
-use Rattle.search.specs.Walk.{State, state, Tables, Resting, headCount, leftIn, Paid, kept, Ready, Walked, Says, Visited, TVisit, TuVisit, TuSearch}
-use Rattle.search.proofs.Marks.{marked-is, marked-at, marked-not, turned-room, turned-gone, turned-same, turned-into, turned-keeps, turned-small}
+use Rattle.search.specs.Walk.{State, state, Tables, Resting, leftIn, Paid, kept, Ready, Walked, Says, Visited, TVisit, TuVisit, TuSearch}
+use Rattle.search.proofs.Marks.{marked-is, marked-at, marked-not, turned-room, turned-gone, turned-same, turned-into, turned-small}
 use Rattle.search.proofs.Answers.{right-false}
 use Rattle.search.proofs.Stock.{settled-left, forgotten-left}
 use Rattle.search.proofs.Visits.{Going, T≢TU, walked-either, walked-more, paid-more, spent-holds, spent-fails}
@@ -99,7 +101,7 @@ module _ {P : Program} {s₀ s : State} (g : Going P T s₀ s) (t₁ u₁ : List
               u-room = turned-room 3 1 pos u₁ ∙ w .tables .u-room;
               t-marks = w .tables .t-marks;
               u-marks = turned-small 3 1 pos u₁ 4 (omega arith) (w .tables .u-marks);
-              right = rw two (right-false (w .tables .right) (marked 1 (turnedIn 3 1 u₁)) (λ A. turned-keeps 3 1 pos u₁ A (λ k. omega arith)) false₂);
+              right = rw two (right-false (w .tables .right) (marked 1 (turnedIn 3 1 u₁)) false₂);
             };
           });
           resting = turned-rests 1 (omega arith) w;
@@ -140,22 +142,22 @@ module _ {P : Program} {s₀ s : State} (g : Going P T s₀ s) (t₁ u₁ : List
     -- the path that was walked is owed
     owed : v₁ + leftIn P (state t₁ u₂ v₁) ≤ s .visits + leftIn P s + headCount P
     unfolding kept
-    owed = rw e (omega (arith, v .visited .spent .spent, forgotten-left P t₁ u₁ (rw e at (forgets .tables))))
+    owed = rw e (omega (arith, v .visited .spent .spent, forgotten-left P t₁ u₁ (v .visited .walked .tables .u-room)))
 
-    pub search-opens : Ready P T s₀ 0 → Ready P T (state t₁ u₂ v₁) (headCount P) × ((l < capacity) × (getD t₁ l 0 ≡ 0))
+    pub search-opens : Ready P T s₀ 0 → Ready P T (state t₁ u₂ v₁) (headCount P) × ((l < capacity) × ((getD t₁ l 0 ≡ 0) × (l ∈ headed P)))
     unfolding Says
     search-opens r =
         (record { tables = forgets .tables; resting = rw e (turned-rests 0 (omega arith) (v .visited .walked)); room = omega (arith, owed, r .room, g .paid .paid) }, v .visited .says .1)
 
     -- and paid by the T-tree
-    pub search-again : {s′ : State} {holds : Bool} → TVisit P (state t₁ u₂ v₁) s′ l holds → getD t₁ l 0 ≡ 0 → Going P T s₀ s′ × (leftIn P s′ < leftIn P s)
+    pub search-again : {s′ : State} {holds : Bool} → TVisit P (state t₁ u₂ v₁) s′ l holds → (getD t₁ l 0 ≡ 0) × (l ∈ headed P) → Going P T s₀ s′ × (leftIn P s′ < leftIn P s)
     search-again x z =
-        let p = x .pays z in
+        let p = x .pays (z .0) (z .1) in
         let c = v .visited .spent .counted in (
           record {
             walked = walked-more (g .walked) (walked-more forgets (x .settled .walked));
             resting = x .settled .resting;
             paid = paid-more (g .paid) (record { counted = omega (arith, c, p .counted); paid = omega (arith, owed, p .paid) });
           },
-          omega (arith, owed, c, x .less z),
+          omega (arith, owed, c, x .less (z .0) (z .1)),
         )

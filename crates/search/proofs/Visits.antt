@@ -13,7 +13,7 @@ use Rattle.wfsx.specs.Trees.{Tree, T, TU}
 use Rattle.litset.specs.Words.{capacity}
 use Rattle.search.specs.declared.Finding.{Finding}
 use Rattle.search.specs.Marks.{isHolds, isFails}
-use Rattle.search.specs.Walk.{State, Tables, Resting, headCount, mostVisits, Paid, kept, Spent, Ready, Walked, Says, Visited, sureAt, mayAt}
+use Rattle.search.specs.Walk.{State, Tables, Resting, Paid, kept, Spent, Ready, Walked, Says, Visited, sureAt, mayAt}
 
 pub T≢TU : T ≡ TU → ⊥
 T≢TU e = let z : _≡_ {A = ℕ} 0 1 = cc in omega arith

@@ -6,16 +6,13 @@ use Prim.Native.Nat.{ℕ, suc}
 use lib.Dec.{eqb}
 use lib.ListN.{getD, set}
 use Rattle.wfsx.specs.Sets.{Set}
-use Rattle.litset.specs.Words.{capacity}
-use Rattle.book.specs.Book.{rows}
 use Rattle.search.specs.declared.Finding.{Finding}
 
 -- the literals that have the mark v
 unfoldable pub marked : ℕ → List ℕ → Set
 marked v s A = eqb (getD s A 0) v
 
--- In the table of T-trees: the literals that hold; those that fail below the present T-ancestors; these ancestors; those that fail whatever stands
--- above them.
+-- In the table of T-trees: the literals that hold, those that fail below the present T-ancestors, and these ancestors.
 abbrev pub provedIn : List ℕ → Set
 provedIn t = marked 1 t
 
@@ -25,11 +22,8 @@ failedIn t = marked 2 t
 abbrev pub aboveIn : List ℕ → Set
 aboveIn t = marked 3 t
 
-abbrev pub neverIn : List ℕ → Set
-neverIn t = marked 4 t
-
--- In the table of TU-trees: the literals that fail whatever stands above them; those that hold below the present T-ancestors; those that failed in the
--- present tree; its local path.
+-- In the table of TU-trees: the literals that fail whatever stands above them, those that hold below the present T-ancestors, those that failed in the
+-- present tree, and its local path.
 abbrev pub falseIn : List ℕ → Set
 falseIn u = marked 1 u
 
@@ -41,10 +35,6 @@ shutIn u = marked 3 u
 
 abbrev pub pathIn : List ℕ → Set
 pathIn u = marked 4 u
-
--- the table with the mark v at every literal outside a set
-abbrev pub outsideMarked : ℕ → Set → List ℕ
-outsideMarked v S = rows (λ A. cond (S A) 0 v) 0 capacity
 
 -- each mark `from` becomes `to`
 unfoldable pub turned : ℕ → ℕ → ℕ → ℕ
@@ -88,24 +78,27 @@ abbrev pub found : Bool → Finding
 found true = Finding.Holds
 found false = Finding.Fails
 
--- what a leaf `not b` of a TU-tree says by the T-tree's mark of b: where there is none, a T-tree is wanted
-abbrev pub leafSays : ℕ → ℕ → Finding
-leafSays mark b = cond (eqb mark 0) (Finding.Waits b) (found (not (eqb mark 1)))
+-- what a leaf `not b` of a TU-tree says by the mark of b in T-trees: where there is none, a T-tree is wanted if b is a head, and fails if it is not
+abbrev pub leafSays : (head : Bool) → (mark b : ℕ) → Finding
+leafSays head mark b = cond (eqb mark 0) (cond head (Finding.Waits b) Finding.Holds) (found (not (eqb mark 1)))
 
--- ---- how many marks pass a test
+-- ---- how many marks of the literals in a set pass a test
 
-unfoldable pub count : (ℕ → Bool) → List ℕ → ℕ
-count test [] = 0
-count test (x ∷ s) = cond (test x) (suc (count test s)) (count test s)
+unfoldable pub countFrom : Set → (ℕ → Bool) → ℕ → List ℕ → ℕ
+countFrom S test A [] = 0
+countFrom S test A (x ∷ s) = cond (S A && test x) (suc (countFrom S test (suc A) s)) (countFrom S test (suc A) s)
 
--- those other than v
-abbrev pub others : ℕ → List ℕ → ℕ
-others v s = count (λ x. not (eqb x v)) s
+abbrev pub count : Set → (ℕ → Bool) → List ℕ → ℕ
+count S test s = countFrom S test 0 s
 
--- none at all
-abbrev pub blanks : List ℕ → ℕ
-blanks s = count (λ x. eqb x 0) s
+-- other marks than v
+abbrev pub others : ℕ → Set → List ℕ → ℕ
+others v S s = count S (λ x. not (eqb x v)) s
+
+-- no mark
+abbrev pub blanks : Set → List ℕ → ℕ
+blanks S s = count S (λ x. eqb x 0) s
 
 -- neither v nor w
-abbrev pub without : ℕ → ℕ → List ℕ → ℕ
-without v w s = count (λ x. not (eqb x v) && not (eqb x w)) s
+abbrev pub without : ℕ → ℕ → Set → List ℕ → ℕ
+without v w S s = count S (λ x. not (eqb x v) && not (eqb x w)) s

@@ -6,14 +6,15 @@ use mathlib.Core.List.{List}
 use Prim.Native.Nat.{ℕ, _+_, _*_, _≤_, _<_}
 use lib.Dec.{ltb}
 use lib.ListN.{length, getD}
-use Rattle.wfsx.specs.Sets.{Set, _∈_, _∉_, _⊆_, ∅, members}
+use Rattle.wfsx.specs.Sets.{Set, _∈_, _∉_, _⊆_, ∅}
 use Rattle.wfsx.specs.Program.{Entry, Program}
 use Rattle.wfsx.specs.Model.{headed}
 use Rattle.wfsx.specs.Trees.{Tree, T, TU, child, tree}
 use Rattle.litset.specs.Words.{capacity, setOf}
 use Rattle.book.specs.Book.{program}
 use Rattle.index.specs.Index.{rulesStart, rulesEnd, rulesBy}
-use Rattle.search.specs.Marks.{marked, provedIn, failedIn, aboveIn, neverIn, falseIn, heldIn, shutIn, pathIn, blanks, without}
+use Rattle.search.specs.Bound.{headCount, mostVisits}
+use Rattle.search.specs.Marks.{provedIn, failedIn, aboveIn, falseIn, heldIn, shutIn, pathIn, others, blanks, without}
 use Rattle.search.specs.declared.Finding.{Finding}
 
 -- ---- what it is handed
@@ -22,9 +23,12 @@ use Rattle.search.specs.declared.Finding.{Finding}
 unfoldable pub programBy : (firsts rules starts entries facts : List ℕ) → Program
 programBy firsts rules starts entries facts = program (rulesBy firsts rules starts entries capacity) (setOf facts)
 
--- the heads of that program
+-- the literals that have a rule, and the heads of that program
+abbrev pub ruleIn : (firsts rules : List ℕ) → Set
+ruleIn firsts rules A = ltb (rulesStart firsts A) (rulesEnd firsts rules A)
+
 abbrev pub headIn : (firsts rules facts : List ℕ) → Set
-headIn firsts rules facts A = setOf facts A || ltb (rulesStart firsts A) (rulesEnd firsts rules A)
+headIn firsts rules facts A = setOf facts A || ruleIn firsts rules A
 
 -- the two tables of marks, and how many nodes have asked their rules
 pub record State : Type 0 where
@@ -37,48 +41,37 @@ state t u visits = record { t = t; u = u; visits = visits }
 
 -- ---- what the marks say is so
 
--- T-trees hold for fewer literals and TU-trees for more as T-ancestors are added. So what is kept as holding in a T-tree holds below none, what is kept as
--- failing fails below the present ones, X; what is kept as failing in a TU-tree fails below none, what is kept as holding holds below X. A literal
--- that is no head fails whatever stands above it, and is marked so.
-pub record Right (P : Program) (proved failed X never false held : Set) : Type 0 where
+-- T-trees hold for fewer literals and TU-trees for more as T-ancestors are added. So what is kept as holding in a T-tree holds below none, and what is kept as
+-- failing fails below the present ones, X; what is kept as failing in a TU-tree fails below none, and what is kept as holding holds below X.
+pub record Right (P : Program) (proved failed X false held : Set) : Type 0 where
   pub proved-right : proved ⊆ tree P T ∅ ∅
   pub failed-right : (A : ℕ) → A ∈ failed → A ∉ tree P T ∅ X
-  pub never-right : (A : ℕ) → A ∈ never → A ∉ tree P T ∅ ∅
   pub false-right : (A : ℕ) → A ∈ false → A ∉ tree P TU ∅ ∅
   pub held-right : held ⊆ tree P TU ∅ X
-  pub never-marked : (A : ℕ) → A < capacity → A ∉ headed P → A ∈ never
-  pub false-marked : (A : ℕ) → A < capacity → A ∉ headed P → A ∈ false
 
 pub record Tables (P : Program) (t u : List ℕ) : Type 0 where
   pub t-room : length t ≡ capacity
   pub u-room : length u ≡ capacity
-  pub t-marks : (A : ℕ) → getD t A 0 ≤ 4
+  pub t-marks : (A : ℕ) → getD t A 0 ≤ 3
   pub u-marks : (A : ℕ) → getD u A 0 ≤ 4
-  pub right : Right P (provedIn t) (failedIn t) (aboveIn t) (neverIn t) (falseIn u) (heldIn u)
+  pub right : Right P (provedIn t) (failedIn t) (aboveIn t) (falseIn u) (heldIn u)
 
 -- Outside a TU-tree no literal is shut or on a path. In one a shut literal fails at the present path.
 unfoldable pub Resting : Program → Tree → List ℕ → Type 0
 Resting P T u = (A : ℕ) → getD u A 0 < 3
 Resting P TU u = (A : ℕ) → A ∈ shutIn u → A ∉ tree P TU (pathIn u) ∅
 
--- ---- how many visits there can be
+-- ---- what the visits are paid with
 
--- how many heads the program has
-unfoldable pub headCount : Program → ℕ
-headCount P = length (members capacity (headed P))
-
--- no walk over n heads asks the rules of more nodes
-abbrev pub mostVisits : ℕ → ℕ
-mostVisits n = 2 * (n * ((n + 1) * (n + 1)))
-
--- What the visits still to come are paid with. A T-node that asks its rules marks a literal of which nothing was known, and pays with that for itself and for
--- a path that was walked in vain. One that holds does so for good: it pays for all that is forgotten then. A TU-node that holds pays for the shut
--- literals that are forgotten, and one that asks its rules pays for itself with a mark where there was none.
-unfoldable pub stock : ℕ → List ℕ → List ℕ → ℕ
-stock n t u = without 1 4 t * (2 * (n * (n + 1))) + (blanks t * (n + 1) + without 1 2 u * n)
+-- Marks of heads alone count. A T-node that asks its rules marks a literal of which nothing was known, and pays with that for itself and for a path that was
+-- walked in vain. One that holds does so for good: it pays for all that is forgotten then. A TU-node that holds pays for the shut literals that are
+-- forgotten, and one that asks its rules pays for itself with a mark where there was none.
+unfoldable pub stock : Program → List ℕ → List ℕ → ℕ
+stock P t u =
+    others 1 (headed P) t * (2 * (headCount P * (headCount P + 1))) + (blanks (headed P) t * (headCount P + 1) + without 1 2 (headed P) u * headCount P)
 
 abbrev pub leftIn : Program → State → ℕ
-leftIn P s = stock (headCount P) (s .t) (s .u) + blanks (s .u)
+leftIn P s = stock P (s .t) (s .u) + blanks (headed P) (s .u)
 
 -- from one state to another, with so much left over
 pub record Paid (P : Program) (s s′ : State) (over : ℕ) : Type 0 where
@@ -86,14 +79,14 @@ pub record Paid (P : Program) (s s′ : State) (over : ℕ) : Type 0 where
   pub paid : s′ .visits + leftIn P s′ + over ≤ s .visits + leftIn P s
 
 -- What waits gives its path's marks back. They count as spent.
-unfoldable pub kept : Finding → List ℕ → ℕ
-kept Finding.Holds u = blanks u
-kept Finding.Fails u = blanks u
-kept (Finding.Waits l) u = 0
+unfoldable pub kept : Program → Finding → List ℕ → ℕ
+kept P Finding.Holds u = blanks (headed P) u
+kept P Finding.Fails u = blanks (headed P) u
+kept P (Finding.Waits l) u = 0
 
 pub record Spent (P : Program) (f : Finding) (s s′ : State) : Type 0 where
   pub counted : s .visits ≤ s′ .visits
-  pub spent : s′ .visits + (stock (headCount P) (s′ .t) (s′ .u) + kept f (s′ .u)) ≤ s .visits + leftIn P s
+  pub spent : s′ .visits + (stock P (s′ .t) (s′ .u) + kept P f (s′ .u)) ≤ s .visits + leftIn P s
 
 -- ---- what a visit asks, leaves and says
 
@@ -110,11 +103,11 @@ pub record Walked (P : Program) (k : Tree) (s s′ : State) : Type 0 where
   pub t-kept : k ≡ TU → s′ .t ≡ s .t
   pub tables : Tables P (s′ .t) (s′ .u)
 
--- It is said to hold where `sure` does, to fail where `may` does not. A T-tree is wanted for a literal of which nothing is known, and by a TU-tree only.
+-- It is said to hold where `sure` does, to fail where `may` does not. A T-tree is wanted for a head of which nothing is known, and by a TU-tree only.
 unfoldable pub Says : Program → Tree → State → (sure may : Bool) → Finding → Type 0
 Says P k s sure may Finding.Holds = (sure ≡ true) × Resting P k (s .u)
 Says P k s sure may Finding.Fails = (may ≡ false) × Resting P k (s .u)
-Says P k s sure may (Finding.Waits l) = (k ≡ TU) × ((l < capacity) × (getD (s .t) l 0 ≡ 0))
+Says P k s sure may (Finding.Waits l) = (k ≡ TU) × ((l < capacity) × ((getD (s .t) l 0 ≡ 0) × (l ∈ headed P)))
 
 pub record Visited (P : Program) (k : Tree) (s s′ : State) (sure may : Bool) (f : Finding) : Type 0 where
   pub walked : Walked P k s s′
@@ -129,11 +122,11 @@ pub record Settled (P : Program) (s s′ : State) (sure may holds : Bool) : Type
   pub said-yes : holds ≡ true → sure ≡ true
   pub said-no : holds ≡ false → may ≡ false
 
--- A T-node. Where nothing was known of its literal it pays for a path walked in vain, and less is left.
+-- A T-node. Where nothing was known of its literal, and that is a head, it pays for a path walked in vain, and less is left.
 pub record TVisit (P : Program) (s s′ : State) (a : ℕ) (holds : Bool) : Type 0 where
   pub settled : Settled P s s′ (tree P T ∅ ∅ a) (tree P T ∅ (aboveIn (s .t)) a) holds
-  pub pays : getD (s .t) a 0 ≡ 0 → Paid P s s′ (headCount P)
-  pub less : getD (s .t) a 0 ≡ 0 → leftIn P s′ + headCount P < leftIn P s
+  pub pays : getD (s .t) a 0 ≡ 0 → a ∈ headed P → Paid P s s′ (headCount P)
+  pub less : getD (s .t) a 0 ≡ 0 → a ∈ headed P → leftIn P s′ + headCount P < leftIn P s
 
 -- the TU-trees for a literal, with no path above it
 abbrev pub TuSearch : Program → (s s′ : State) → ℕ → Bool → Type 0

@@ -1,7 +1,7 @@
 // The search of a question through its pruned trees. Ancestors are marks in two lent tables, set on the way down and taken off on the way up. The same
 // tables keep, for one search, what the trees answer for a literal, so that no tree is walked again for nothing. Neither M nor N is read.
 ghost use mathlib.Core.Path.{_≡_};
-ghost use mathlib.Core.Bool.{cond};
+ghost use mathlib.Core.Bool.{_||_};
 ghost use Prim.Native.Nat.{ℕ, _<_, _≤_};
 ghost use lib.ListN.{length, getD};
 ghost use Rattle.wfsx.specs.Model.{every};
@@ -11,8 +11,9 @@ ghost use Rattle.litset.specs.Words.{capacity, setOf};
 ghost use Rattle.book.specs.Book.{entryIs, literalIn, bodyOf, programOf};
 ghost use Rattle.index.specs.Index.{supportedBy};
 ghost use Rattle.search.specs.Questions.{treeOf, questionOf, decidedBy};
-ghost use Rattle.search.specs.Marks.{aboveIn, outsideMarked, turned, turnedIn, tLeft, heldLeft, uLeft, isHolds, isFails, found, leafSays};
-ghost use Rattle.search.specs.Walk.{programBy, headIn, state, headCount, mostVisits, Ready, TVisit, TuVisit, TuSearch, Asked};
+ghost use Rattle.search.specs.Bound.{headCount, mostVisits};
+ghost use Rattle.search.specs.Marks.{aboveIn, turned, turnedIn, tLeft, heldLeft, uLeft, isHolds, isFails, found, leafSays};
+ghost use Rattle.search.specs.Walk.{programBy, ruleIn, headIn, state, Ready, TVisit, TuVisit, TuSearch, Asked};
 use book::Book;
 use book::Entry;
 use index::Index;
@@ -36,8 +37,6 @@ const PROVED: u8 = 1;
 const FAILED: u8 = 2;
 
 const ABOVE: u8 = 3;
-
-const NEVER: u8 = 4;
 
 // Marks of a literal in TU-trees; 0 is none.
 const FALSE: u8 = 1;
@@ -79,7 +78,7 @@ pub fn search_counted(
             visits: 0,
         };
     }
-    let by_head = index::index_of(book);
+    let by_head = index::index_of(&book.heads, book.rules);
     let walked = walk(
         &by_head.starts,
         &by_head.rules,
@@ -125,8 +124,8 @@ fn walk<'a>(
     ensures { λ r. ⌜ (r .holds ≡ tree (programBy (now (first .entry)) (now (rules .entry)) (now (starts .entry)) (now (entries .entry)) (facts .words)) (treeOf kind) ∅ ∅ literal)
         × (r .visits ≤ mostVisits (headCount (programBy (now (first .entry)) (now (rules .entry)) (now (starts .entry)) (now (entries .entry)) (facts .words)))) ⌝ }
 {
-    let mut t = headless(first, rules, facts, NEVER);
-    let mut tu = headless(first, rules, facts, FALSE);
+    let mut t = [0u8; litset::CAPACITY];
+    let mut tu = [0u8; litset::CAPACITY];
     let mut visits: usize = 0;
     let holds = root(
         first,
@@ -172,40 +171,6 @@ fn root<'a>(
 }
 
 // ---- marks
-
-// A table with this mark at every literal that is no head: it fails, whatever stands above it, and nothing is opened for it.
-fn headless<'a>(
-    first: &'a [u16],
-    rules: &'a [u16],
-    facts: LitSet,
-    mark: u8,
-) -> [u8; litset::CAPACITY]
-    ensures { λ r. ⌜ r ≡ outsideMarked mark (headIn (now (first .entry)) (now (rules .entry)) (facts .words)) ⌝ }
-{
-    let mut marks = [0u8; litset::CAPACITY];
-    let mut a: usize = 0;
-    while a < litset::CAPACITY {
-        marks[a] = mark_unless(is_head(first, rules, facts, a), mark);
-        a += 1;
-    }
-    marks
-}
-
-fn mark_unless(known: bool, mark: u8) -> u8
-    ensures { λ r. ⌜ r ≡ cond known 0 mark ⌝ }
-{
-    if known { 0 } else { mark }
-}
-
-// Whether the literal has a rule or is a fact.
-fn is_head<'a>(first: &'a [u16], rules: &'a [u16], facts: LitSet, a: usize) -> bool
-    ensures { λ r. ⌜ r ≡ headIn (now (first .entry)) (now (rules .entry)) (facts .words) a ⌝ }
-{
-    if litset::contains(facts, a) {
-        return true;
-    }
-    index::rules_start(first, a) < index::rules_end(first, rules, a)
-}
 
 // Each mark `from` of a table becomes `to`.
 fn turn(marks: &mut [u8; litset::CAPACITY], from: u8, to: u8)
@@ -257,14 +222,30 @@ fn found(holds: bool) -> Finding
     }
 }
 
-// What a leaf `not b` of a TU-tree says by the mark of `b` in T-trees. Where there is none a T-tree is wanted first.
-fn leaf_says(mark: u8, b: usize) -> Finding
-    ensures { λ r. ⌜ r ≡ leafSays mark b ⌝ }
+// ---- heads
+
+// Whether a literal, which `fact` says to be a fact or not, is a head.
+fn is_head<'a>(first: &'a [u16], rules: &'a [u16], fact: bool, a: usize) -> bool
+    ensures { λ r. ⌜ r ≡ (fact || ruleIn (now (first .entry)) (now (rules .entry)) a) ⌝ }
 {
-    if mark == 0 {
+    if fact {
+        return true;
+    }
+    index::rules_start(first, a) < index::rules_end(first, rules, a)
+}
+
+// What a leaf `not b` of a TU-tree says by the mark of `b` in T-trees. Where there is none a T-tree is wanted first, but for a literal that has no rule and is no
+// fact: that fails.
+fn leaf<'a>(first: &'a [u16], rules: &'a [u16], facts: LitSet, mark: u8, b: usize) -> Finding
+    ensures { λ r. ⌜ r ≡ leafSays (headIn (now (first .entry)) (now (rules .entry)) (facts .words) b) mark b ⌝ }
+{
+    if mark != 0 {
+        return found(mark != PROVED);
+    }
+    if is_head(first, rules, litset::contains(facts, b), b) {
         return Finding::Waits(b);
     }
-    found(mark != PROVED)
+    Finding::Holds
 }
 
 // ---- T-trees
@@ -293,6 +274,9 @@ fn t_node<'a>(
     if litset::contains(facts, a) {
         t[a] = PROVED;
         return true;
+    }
+    if !is_head(first, rules, false, a) {
+        return false;
     }
     *visits += 1;
     t[a] = ABOVE;
@@ -381,12 +365,16 @@ fn tu_node<'a>(
     if known != 0 {
         return found(known == HELD);
     }
-    let other = litset::complement(a);
-    let leaf = leaf_says(t[other], other);
-    if !holds(leaf) {
-        return leaf;
+    let fact = litset::contains(facts, a);
+    if !is_head(first, rules, fact, a) {
+        return Finding::Fails;
     }
-    if litset::contains(facts, a) {
+    let other = litset::complement(a);
+    let added = leaf(first, rules, facts, t[other], other);
+    if !holds(added) {
+        return added;
+    }
+    if fact {
         return Finding::Holds;
     }
     *visits += 1;
@@ -518,7 +506,7 @@ fn child<'a>(
                 return found(!holds);
             }
             Tree::Tu => {
-                return leaf_says(t[b], b);
+                return leaf(first, rules, facts, t[b], b);
             }
         },
     }

@@ -7,8 +7,9 @@ use borrow.Author.Needs.{needs}
 use borrow.Author.Tests.{not-true, not-false}
 use lib.ListN.{length, getD}
 use Rattle.wfsx.specs.Program.{Program}
+use Rattle.wfsx.specs.Model.{headed}
 use Rattle.wfsx.specs.Trees.{T}
-use Rattle.litset.specs.Words.{nWords, setOf}
+use Rattle.litset.specs.Words.{nWords, capacity, setOf}
 use Rattle.litset.proofs.Words.{compl-small}
 use Rattle.book.specs.Book.{bodyEnd}
 use Rattle.book.proofs.Bodies.{BodyLeft, body-first, body-over}
@@ -16,17 +17,17 @@ use Rattle.index.specs.Index.{rulesEnd, supportedBy}
 use Rattle.index.proofs.Walks.{RulesLeft, rules-first, rules-over}
 use Rattle.search.specs.Questions.{treeOf}
 use Rattle.search.specs.Marks.{isHolds, leafSays}
-use Rattle.search.specs.Walk.{programBy, state, leftIn, sureAt, mayAt}
+use Rattle.search.specs.Walk.{programBy, headIn, state, leftIn, sureAt, mayAt}
 use Rattle.search.proofs.Answers.{Joined}
 use Rattle.search.proofs.Stock.{most-small}
 use Rattle.search.proofs.Visits.{Going, going-none, going-ready, going-holds, going-fails}
-use Rattle.search.proofs.TNodes.{t-known, t-fact, t-ready, t-leaves}
-use Rattle.search.proofs.TuNodes.{u-known, u-leaf, u-fact, u-ready, u-leaves}
+use Rattle.search.proofs.TNodes.{t-known, t-bare, t-fact, t-ready, t-leaves}
+use Rattle.search.proofs.TuNodes.{u-known, u-bare, u-leaf, u-fact, u-ready, u-leaves}
 use Rattle.search.proofs.Searches.{search-ready, search-holds, search-fails, search-walked, search-opens, search-again}
 use Rattle.search.proofs.Falls.{t-size, tu-size, search-size, child-size, child-size-same, t-falls, tu-falls, search-tu-falls, search-t-falls, T-t-falls, T-search-falls, TU-tu-falls}
 use Rattle.search.proofs.Children.{ready-T, ready-TU, positive-small, default-small, T-positive, T-default, TU-positive, TU-default}
 use Rattle.search.proofs.Loops.{entry-small, body-goes-on, body-ends, rules-go-on, rules-end}
-use Rattle.search.proofs.Questions.{joined-by}
+use Rattle.search.proofs.Questions.{joined-by, headed-is, headed-by}
 use Prim.Native.Nat.{ℕ, _+_, _-_, _<_}
 use borrow.Fn.Kinds.{In}
 use borrow.Fn.PlainCycle.{Measures, is, falls, and}
@@ -59,7 +60,8 @@ use Rattle.litset.proofs.contains.Reads as contains-reads
 use Rattle.search.proofs.fails.Reads as fails-reads
 use Rattle.search.proofs.found.Reads as found-reads
 use Rattle.search.proofs.holds.Reads as holds-reads
-use Rattle.search.proofs.leaf_says.Reads as leaf-says-reads
+use Rattle.search.proofs.is_head.Reads as is-head-reads
+use Rattle.search.proofs.leaf.Reads as leaf-reads
 use Rattle.search.proofs.leave_t.Reads as leave-t-reads
 use Rattle.search.proofs.leave_tu.Reads as leave-tu-reads
 use Rattle.search.proofs.turn.Reads as turn-reads
@@ -160,9 +162,10 @@ all-children-entry-at-requires t c κs = search needs
 all-children-child-requires : (t : ℕ) → all-children-lts.Need-child-requires (all-children-claims t) (all-children-at t) all-children.Post all-children-Inv-loop all-children-μ-loop
 all-children-child-requires t c κs =
     let start = c .before .before .before .before .before .before .before .before .before .before .before .before in
-    let inv = c .before .before .before .before .before .loop .inv in
-    (omega (arith, start .pre .0, child-size-same (start .pre .1 .tables) (inv .0 .walked) (treeOf (start .args .kind))),
-    (entry-small (start .args .entries .now) (c .before .before .before .before .before .loop .j) (c .before .before .before .entry-at .result) (c .before .before .before .entry-at .ensures), going-ready (start .pre .1) (inv .0)))
+    let inv = c .before .before .before .before .before .loop .inv in (
+      omega (arith, start .pre .0, child-size-same (start .pre .1 .tables) (inv .0 .walked) (treeOf (start .args .kind))),
+      (entry-small (start .args .entries .now) (c .before .before .before .before .before .loop .j) (c .before .before .before .entry-at .result) (c .before .before .before .entry-at .ensures), going-ready (start .pre .1) (inv .0)),
+    )
 
 all-children-holds-requires : (t : ℕ) → all-children-lts.Need-holds-requires (all-children-claims t) (all-children-at t) all-children.Post all-children-Inv-loop all-children-μ-loop
 all-children-holds-requires t c κs = search needs
@@ -191,7 +194,14 @@ all-children-returns-2 t c =
     going-holds (inv .0) (body-over (inv .1) (rw (c .before .before .before .body-end .ensures) at (c .loop-test .left)))
 
 abbrev child-claims : ℕ → child-lts.Claims
-child-claims t = (t-node-below t, t-node.Post, found-reads.Asked, found-reads.Learnt, tu-node-below t, tu-node.Post, tu-search-below t, tu-search.Post, leaf-says-reads.Asked, leaf-says-reads.Learnt)
+child-claims t = (t-node-below t, t-node.Post, found-reads.Asked, found-reads.Learnt, tu-node-below t, tu-node.Post, tu-search-below t, tu-search.Post, leaf-reads.Asked, leaf-reads.Learnt)
+
+child-long : (t : ℕ) (q : child-lts.Start (child-claims t) (child-at t) child.Post) → length (q .args .facts .words) ≡ nWords
+child-long t q = search needs
+
+-- the heads that the walk finds are those of the program
+child-heads : (t : ℕ) (q : child-lts.Start (child-claims t) (child-at t) child.Post) (A : ℕ) → A < capacity → headed (programBy (q .args .first .now) (q .args .rules .now) (q .args .starts .now) (q .args .entries .now) (q .args .facts .words)) A ≡ headIn (q .args .first .now) (q .args .rules .now) (q .args .facts .words) A
+child-heads t q = headed-is _ _ _ _ _ (child-long t q)
 
 child-enum-known-e : (t : ℕ) → child-lts.Need-enum-known-e (child-claims t) (child-at t) child.Post
 child-enum-known-e t c = search needs
@@ -246,17 +256,18 @@ child-returns-3 t c =
 child-enum-told-4 : (t : ℕ) → child-lts.Need-enum-told-4 (child-claims t) (child-at t) child.Post
 child-enum-told-4 t c = search needs
 
-child-element-copy-out-leaf-says : (t : ℕ) → child-lts.Need-element-copy-out-leaf-says (child-claims t) (child-at t) child.Post
-child-element-copy-out-leaf-says t c = default-small _ _ (c .before .before .before .e2 .given .1) (c .before .before .before .before .before .before .before .before .before .pre .1 .0)
+child-element-copy-out-leaf : (t : ℕ) → child-lts.Need-element-copy-out-leaf (child-claims t) (child-at t) child.Post
+child-element-copy-out-leaf t c = default-small _ _ (c .before .before .before .e2 .given .1) (c .before .before .before .before .before .before .before .before .before .pre .1 .0)
 
-child-leaf-says-requires : (t : ℕ) → child-lts.Need-leaf-says-requires (child-claims t) (child-at t) child.Post
-child-leaf-says-requires t c κs = search needs
+child-leaf-requires : (t : ℕ) → child-lts.Need-leaf-requires (child-claims t) (child-at t) child.Post
+child-leaf-requires t c κs = search needs
 
 child-returns-4 : (t : ℕ) → child-lts.Need-returns-4 (child-claims t) (child-at t) child.Post
 child-returns-4 t c =
     let start = c .before .before .before .before .before .before .before .before .before .before .before in
     let entry = c .before .before .before .before .before .e2 .given .1 in
-    rw (c .leaf-says .ensures) (TU-default _ _ _ (c .before .before .enum-told4 .given .1) entry (default-small _ _ entry (start .pre .1 .0)) (start .pre .1 .1))
+    let small = default-small _ _ entry (start .pre .1 .0) in
+    rw (c .leaf .ensures) (TU-default _ _ _ (c .before .before .enum-told4 .given .1) entry small _ (child-heads t start _ small) (start .pre .1 .1))
 
 abbrev some-rule-Inv-loop : some-rule-lts.InvT-loop
 some-rule-Inv-loop first rules starts entries facts t₀ tu₀ visits₀ kind a end p₀ t tu visits p =
@@ -320,17 +331,26 @@ some-rule-returns-2 t c =
     going-fails (inv .0) (rules-over (inv .1) (rw (c .before .before .before .rules-end .ensures) at (c .loop-test .left)))
 
 abbrev t-node-claims : ℕ → t-node-lts.Claims
-t-node-claims t = (contains-reads.Asked, contains-reads.Learnt, some-rule-below t, some-rule.Post, leave-t-reads.Asked, leave-t-reads.Learnt, holds-reads.Asked, holds-reads.Learnt)
+t-node-claims t = (contains-reads.Asked, contains-reads.Learnt, is-head-reads.Asked, is-head-reads.Learnt, some-rule-below t, some-rule.Post, leave-t-reads.Asked, leave-t-reads.Learnt, holds-reads.Asked, holds-reads.Learnt)
+
+t-node-long : (t : ℕ) (q : t-node-lts.Start (t-node-claims t) (t-node-at t) t-node.Post) → length (q .args .facts .words) ≡ nWords
+t-node-long t q = search needs
 
 abbrev t-node-program : (t : ℕ) → t-node-lts.Start (t-node-claims t) (t-node-at t) t-node.Post → Program
 t-node-program t q = (programBy (q .args .first .now) (q .args .rules .now) (q .args .starts .now) (q .args .entries .now) (q .args .facts .words))
 
 t-node-joins : (t : ℕ) (q : t-node-lts.Start (t-node-claims t) (t-node-at t) t-node.Post)
     → Joined (t-node-program t q) (supportedBy (q .args .first .now) (q .args .rules .now) (q .args .starts .now) (q .args .entries .now)) (setOf (q .args .facts .words))
-t-node-joins t q = let long : length (q .args .facts .words) ≡ nWords = search needs in joined-by _ _ _ _ _ long
+t-node-joins t q = joined-by _ _ _ _ _ (t-node-long t q)
 
 abbrev t-node-start : (t : ℕ) → t-node-lts.After-known (t-node-claims t) (t-node-at t) t-node.Post → t-node-lts.Start (t-node-claims t) (t-node-at t) t-node.Post
 t-node-start t q = q .before .before .before .before .before
+
+-- whether its literal, which is no fact, is a head
+t-node-headed : (t : ℕ) (q : t-node-lts.After-is-head (t-node-claims t) (t-node-at t) t-node.Post) → headed (t-node-program t (q .before .before .before .before .before .before .before .before .before)) (q .before .before .before .before .before .before .before .before .before .args .a) ≡ q .is-head .result
+t-node-headed t q =
+    let start = q .before .before .before .before .before .before .before .before .before in
+    headed-by _ _ _ _ _ (t-node-long t start) _ (start .pre .1 .0) _ _ (sym (q .before .if2 .left) ∙ q .before .before .contains .ensures) (q .is-head .ensures)
 
 t-node-element-copy-out-known : (t : ℕ) → t-node-lts.Need-element-copy-out-known (t-node-claims t) (t-node-at t) t-node.Post
 t-node-element-copy-out-known t c = search needs
@@ -349,9 +369,17 @@ t-node-returns-2 t c =
     let start = c .before .before .before .before .before .before .before .before in
     t-fact (t-node-joins t start) _ _ _ (start .pre .1 .1) _ (start .pre .1 .0) (c .before .before .if1 .left) (sym (c .before .contains .ensures) ∙ c .if2 .taken)
 
+t-node-is-head-requires : (t : ℕ) → t-node-lts.Need-is-head-requires (t-node-claims t) (t-node-at t) t-node.Post
+t-node-is-head-requires t c κs = search needs
+
+t-node-returns-3 : (t : ℕ) → t-node-lts.Need-returns-3 (t-node-claims t) (t-node-at t) t-node.Post
+t-node-returns-3 t c =
+    let start = c .before .before .before .before .before .before .before .before .before .before in
+    t-bare (start .pre .1 .1) _ (t-node-headed t (c .before) ∙ not-true _ (c .if3 .taken))
+
 t-node-add-visits : (t : ℕ) → t-node-lts.Need-add-visits (t-node-claims t) (t-node-at t) t-node.Post
 t-node-add-visits t c =
-    let start = c .before .before .before .before .before .before .before .before .before in
+    let start = t-node-start t (c .before .before .before .before .before .before) in
     omega (arith, start .pre .1 .1 .room, most-small (t-node-program t start))
 
 t-node-element-write-t-2 : (t : ℕ) → t-node-lts.Need-element-write-t-2 (t-node-claims t) (t-node-at t) t-node.Post
@@ -359,42 +387,60 @@ t-node-element-write-t-2 t c = search needs
 
 t-node-some-rule-requires : (t : ℕ) → t-node-lts.Need-some-rule-requires (t-node-claims t) (t-node-at t) t-node.Post
 t-node-some-rule-requires t c κs =
-    let start = c .before .before .before .before .before .before .before .before .before .before .before .before in
-    let zero = c .before .before .before .before .before .before .if1 .left in
-    (t-falls (start .pre .1 .1 .tables) _ (start .pre .1 .0) zero _ _ (start .pre .0), t-ready (t-node-joins t start) _ _ _ (start .pre .1 .1) _ (start .pre .1 .0) zero)
+    let start = t-node-start t (c .before .before .before .before .before .before .before .before .before) in
+    let zero = c .before .before .before .before .before .before .before .before .if1 .left in (
+      t-falls (start .pre .1 .1 .tables) _ (start .pre .1 .0) zero _ _ (start .pre .0),
+      t-ready (t-node-joins t start) _ _ _ (start .pre .1 .1) _ (start .pre .1 .0) zero (t-node-headed t (c .before .before .before .before .before) ∙ not-false _ (c .before .before .before .before .if3 .left)),
+    )
 
 t-node-leave-t-requires : (t : ℕ) → t-node-lts.Need-leave-t-requires (t-node-claims t) (t-node-at t) t-node.Post
 t-node-leave-t-requires t c κs =
     let rooms = c .before .before .some-rule .ensures .walked .tables in
-    (c .before .before .before .before .before .before .before .before .before .before .before .before .before .before .before .pre .1 .0, (rooms .t-room, rooms .u-room))
+    (t-node-start t (c .before .before .before .before .before .before .before .before .before .before .before .before) .pre .1 .0, (rooms .t-room, rooms .u-room))
 
 t-node-holds-requires : (t : ℕ) → t-node-lts.Need-holds-requires (t-node-claims t) (t-node-at t) t-node.Post
 t-node-holds-requires t c κs = search needs
 
-t-node-returns-3 : (t : ℕ) → t-node-lts.Need-returns-3 (t-node-claims t) (t-node-at t) t-node.Post
-t-node-returns-3 t c =
-    let start = t-node-start t (c .before .before .before .before .before .before .before .before .before .before .before .before) in
+t-node-returns-4 : (t : ℕ) → t-node-lts.Need-returns-4 (t-node-claims t) (t-node-at t) t-node.Post
+t-node-returns-4 t c =
+    let start = t-node-start t (c .before .before .before .before .before .before .before .before .before .before .before .before .before .before) in
     let left = c .before .leave-t .ensures in
-    rw (c .holds .ensures) (t-leaves (t-node-joins t start) _ _ _ (start .pre .1 .1) _ (start .pre .1 .0) (c .before .before .before .before .before .before .before .before .before .before .before .if1 .left) (sym (c .before .before .before .before .before .before .before .before .before .before .contains .ensures) ∙ c .before .before .before .before .before .before .before .before .before .if2 .left)
-    _ _ _ _ (c .before .before .before .before .some-rule .ensures) _ _ (left .0) (left .1))
+    rw (c .holds .ensures) (t-leaves (t-node-joins t start) _ _ _ (start .pre .1 .1) _ (start .pre .1 .0) (c .before .before .before .before .before .before .before .before .before .before .before .before .before .if1 .left) (t-node-headed t (c .before .before .before .before .before .before .before .before .before .before) ∙ not-false _ (c .before .before .before .before .before .before .before .before .before .if3 .left))
+    (sym (c .before .before .before .before .before .before .before .before .before .before .before .before .contains .ensures) ∙ c .before .before .before .before .before .before .before .before .before .before .before .if2 .left) _ _ _ _ (c .before .before .before .before .some-rule .ensures) _ _ (left .0) (left .1))
 
 abbrev tu-node-claims : ℕ → tu-node-lts.Claims
-tu-node-claims t = (found-reads.Asked, found-reads.Learnt, complement-reads.Asked, complement-reads.Learnt, leaf-says-reads.Asked, leaf-says-reads.Learnt, holds-reads.Asked, holds-reads.Learnt, contains-reads.Asked, contains-reads.Learnt, some-rule-below t, some-rule.Post, leave-tu-reads.Asked, leave-tu-reads.Learnt)
+tu-node-claims t = (found-reads.Asked, found-reads.Learnt, contains-reads.Asked, contains-reads.Learnt, is-head-reads.Asked, is-head-reads.Learnt, complement-reads.Asked, complement-reads.Learnt, leaf-reads.Asked, leaf-reads.Learnt, holds-reads.Asked, holds-reads.Learnt, some-rule-below t, some-rule.Post, leave-tu-reads.Asked, leave-tu-reads.Learnt)
+
+tu-node-long : (t : ℕ) (q : tu-node-lts.Start (tu-node-claims t) (tu-node-at t) tu-node.Post) → length (q .args .facts .words) ≡ nWords
+tu-node-long t q = search needs
 
 abbrev tu-node-program : (t : ℕ) → tu-node-lts.Start (tu-node-claims t) (tu-node-at t) tu-node.Post → Program
 tu-node-program t q = (programBy (q .args .first .now) (q .args .rules .now) (q .args .starts .now) (q .args .entries .now) (q .args .facts .words))
 
 tu-node-joins : (t : ℕ) (q : tu-node-lts.Start (tu-node-claims t) (tu-node-at t) tu-node.Post)
     → Joined (tu-node-program t q) (supportedBy (q .args .first .now) (q .args .rules .now) (q .args .starts .now) (q .args .entries .now)) (setOf (q .args .facts .words))
-tu-node-joins t q = let long : length (q .args .facts .words) ≡ nWords = search needs in joined-by _ _ _ _ _ long
+tu-node-joins t q = joined-by _ _ _ _ _ (tu-node-long t q)
+
+-- the heads that the walk finds are those of the program
+tu-node-heads : (t : ℕ) (q : tu-node-lts.Start (tu-node-claims t) (tu-node-at t) tu-node.Post) (A : ℕ) → A < capacity → headed (programBy (q .args .first .now) (q .args .rules .now) (q .args .starts .now) (q .args .entries .now) (q .args .facts .words)) A ≡ headIn (q .args .first .now) (q .args .rules .now) (q .args .facts .words) A
+tu-node-heads t q = headed-is _ _ _ _ _ (tu-node-long t q)
 
 abbrev tu-node-start : (t : ℕ) → tu-node-lts.Else1 (tu-node-claims t) (tu-node-at t) tu-node.Post → tu-node-lts.Start (tu-node-claims t) (tu-node-at t) tu-node.Post
 tu-node-start t q = q .before .before .before .before .before .before
 
+-- whether its literal is a head
+tu-node-headed : (t : ℕ) (q : tu-node-lts.After-is-head (tu-node-claims t) (tu-node-at t) tu-node.Post) → headed (tu-node-program t (q .before .before .before .before .before .before .before .before)) (q .before .before .before .before .before .before .before .before .args .a) ≡ q .is-head .result
+tu-node-headed t q = let start = q .before .before .before .before .before .before .before .before in headed-by _ _ _ _ _ (tu-node-long t start) _ (start .pre .1 .0) _ _ (q .before .contains .ensures) (q .is-head .ensures)
+
+-- the leaf's literal is in the table
+tu-node-other : (t : ℕ) (q : tu-node-lts.After-complement (tu-node-claims t) (tu-node-at t) tu-node.Post) → q .complement .result < capacity
+tu-node-other t q = omega (arith, compl-small _ (q .before .before .before .before .before .before .before .before .before .before .pre .1 .0), q .complement .ensures)
+
 -- past the leaf it holds
-tu-node-leaf : (t : ℕ) (q : tu-node-lts.Else2 (tu-node-claims t) (tu-node-at t) tu-node.Post)
-    → isHolds (leafSays (getD (q .before .before .before .before .before .before .before .before .before .before .before .args .t .now) (q .before .before .before .before .complement .result) 0) (q .before .before .before .before .complement .result)) ≡ true
-tu-node-leaf t q = ap isHolds (sym (q .before .before .leaf-says .ensures)) ∙ sym (q .before .holds .ensures) ∙ not-false _ (q .if2 .left)
+tu-node-leaf : (t : ℕ) (q : tu-node-lts.Else3 (tu-node-claims t) (tu-node-at t) tu-node.Post)
+    → isHolds (leafSays (headIn (q .before .before .before .before .before .before .before .before .before .before .before .before .before .before .args .first .now) (q .before .before .before .before .before .before .before .before .before .before .before .before .before .before .args .rules .now) (q .before .before .before .before .before .before .before .before .before .before .before .before .before .before .args .facts .words) (q .before .before .before .before .complement .result))
+    (getD (q .before .before .before .before .before .before .before .before .before .before .before .before .before .before .args .t .now) (q .before .before .before .before .complement .result) 0) (q .before .before .before .before .complement .result)) ≡ true
+tu-node-leaf t q = ap isHolds (sym (q .before .before .leaf .ensures)) ∙ sym (q .before .holds .ensures) ∙ not-false _ (q .if3 .left)
 
 tu-node-element-copy-out-known : (t : ℕ) → tu-node-lts.Need-element-copy-out-known (tu-node-claims t) (tu-node-at t) tu-node.Post
 tu-node-element-copy-out-known t c = search needs
@@ -406,36 +452,45 @@ tu-node-returns : (t : ℕ) → tu-node-lts.Need-returns (tu-node-claims t) (tu-
 tu-node-returns t c =
     rw (c .found .ensures) (u-known (c .before .before .before .before .before .before .before .pre .1 .1) _ (c .before .if1 .taken))
 
+tu-node-contains-requires : (t : ℕ) → tu-node-lts.Need-contains-requires (tu-node-claims t) (tu-node-at t) tu-node.Post
+tu-node-contains-requires t c κs = search needs
+
+tu-node-is-head-requires : (t : ℕ) → tu-node-lts.Need-is-head-requires (tu-node-claims t) (tu-node-at t) tu-node.Post
+tu-node-is-head-requires t c κs = search needs
+
+tu-node-returns-2 : (t : ℕ) → tu-node-lts.Need-returns-2 (tu-node-claims t) (tu-node-at t) tu-node.Post
+tu-node-returns-2 t c =
+    u-bare (c .before .before .before .before .before .before .before .before .before .pre .1 .1) _ (tu-node-headed t (c .before) ∙ not-true _ (c .if2 .taken))
+
 tu-node-complement-requires : (t : ℕ) → tu-node-lts.Need-complement-requires (tu-node-claims t) (tu-node-at t) tu-node.Post
 tu-node-complement-requires t c κs = search needs
 
-tu-node-element-copy-out-leaf-says : (t : ℕ) → tu-node-lts.Need-element-copy-out-leaf-says (tu-node-claims t) (tu-node-at t) tu-node.Post
-tu-node-element-copy-out-leaf-says t c =
-    omega (arith, compl-small _ (c .before .before .before .before .before .before .before .pre .1 .0), c .complement .ensures)
+tu-node-element-copy-out-leaf : (t : ℕ) → tu-node-lts.Need-element-copy-out-leaf (tu-node-claims t) (tu-node-at t) tu-node.Post
+tu-node-element-copy-out-leaf t c = tu-node-other t c
 
-tu-node-leaf-says-requires : (t : ℕ) → tu-node-lts.Need-leaf-says-requires (tu-node-claims t) (tu-node-at t) tu-node.Post
-tu-node-leaf-says-requires t c κs = search needs
+tu-node-leaf-requires : (t : ℕ) → tu-node-lts.Need-leaf-requires (tu-node-claims t) (tu-node-at t) tu-node.Post
+tu-node-leaf-requires t c κs = search needs
 
 tu-node-holds-requires : (t : ℕ) → tu-node-lts.Need-holds-requires (tu-node-claims t) (tu-node-at t) tu-node.Post
 tu-node-holds-requires t c κs = search needs
 
-tu-node-returns-2 : (t : ℕ) → tu-node-lts.Need-returns-2 (tu-node-claims t) (tu-node-at t) tu-node.Post
-tu-node-returns-2 t c =
-    let start = c .before .before .before .before .before .before .before .before .before .before .before in
-    let says = c .before .before .leaf-says .ensures in
-    rw says (u-leaf (start .pre .1 .1) _ (start .pre .1 .0) _ (c .before .before .before .before .complement .ensures) (ap isHolds (sym says) ∙ sym (c .before .holds .ensures) ∙ not-true _ (c .if2 .taken)))
-
-tu-node-contains-requires : (t : ℕ) → tu-node-lts.Need-contains-requires (tu-node-claims t) (tu-node-at t) tu-node.Post
-tu-node-contains-requires t c κs = search needs
-
 tu-node-returns-3 : (t : ℕ) → tu-node-lts.Need-returns-3 (tu-node-claims t) (tu-node-at t) tu-node.Post
 tu-node-returns-3 t c =
-    let start = c .before .before .before .before .before .before .before .before .before .before .before .before .before in
-    u-fact (start .pre .1 .1) _ (start .pre .1 .0) _ (c .before .before .before .before .before .before .complement .ensures) (tu-node-joins t start) (tu-node-leaf t (c .before .before)) (sym (c .before .contains .ensures) ∙ c .if3 .taken)
+    let start = c .before .before .before .before .before .before .before .before .before .before .before .before .before .before in
+    let says = c .before .before .leaf .ensures in
+    let other = tu-node-other t (c .before .before .before .before) in
+    rw says (u-leaf (start .pre .1 .1) _ (start .pre .1 .0) _ (c .before .before .before .before .complement .ensures) _ (tu-node-heads t start _ other)
+    (ap isHolds (sym says) ∙ sym (c .before .holds .ensures) ∙ not-true _ (c .if3 .taken)))
+
+tu-node-returns-4 : (t : ℕ) → tu-node-lts.Need-returns-4 (tu-node-claims t) (tu-node-at t) tu-node.Post
+tu-node-returns-4 t c =
+    let start = tu-node-start t (c .before .before .before .before .before .before .before .before .before) in
+    u-fact (start .pre .1 .1) _ (start .pre .1 .0) _ (c .before .before .before .before .before .complement .ensures) _ (tu-node-heads t start _ (tu-node-other t (c .before .before .before .before .before))) (tu-node-joins t start) (tu-node-leaf t (c .before))
+    (sym (c .before .before .before .before .before .before .before .before .contains .ensures) ∙ c .if4 .taken)
 
 tu-node-add-visits : (t : ℕ) → tu-node-lts.Need-add-visits (tu-node-claims t) (tu-node-at t) tu-node.Post
 tu-node-add-visits t c =
-    let start = c .before .before .before .before .before .before .before .before .before .before .before .before .before .before in
+    let start = tu-node-start t (c .before .before .before .before .before .before .before .before .before .before) in
     omega (arith, start .pre .1 .1 .room, most-small (tu-node-program t start))
 
 tu-node-element-write-tu : (t : ℕ) → tu-node-lts.Need-element-write-tu (tu-node-claims t) (tu-node-at t) tu-node.Post
@@ -443,18 +498,22 @@ tu-node-element-write-tu t c = search needs
 
 tu-node-some-rule-requires : (t : ℕ) → tu-node-lts.Need-some-rule-requires (tu-node-claims t) (tu-node-at t) tu-node.Post
 tu-node-some-rule-requires t c κs =
-    let start = c .before .before .before .before .before .before .before .before .before .before .before .before .before .before .before .before .before in
-    let zero = c .before .before .before .before .before .before .before .before .before .before .before .if1 .left in
-    (tu-falls (start .pre .1 .1 .tables) _ (start .pre .1 .0) zero _ (start .pre .0), u-ready (tu-node-joins t start) _ _ _ (start .pre .1 .1) _ (start .pre .1 .0) zero)
+    let start = tu-node-start t (c .before .before .before .before .before .before .before .before .before .before .before .before .before) in
+    let zero = c .before .before .before .before .before .before .before .before .before .before .before .before .before .if1 .left in (
+      tu-falls (start .pre .1 .1 .tables) _ (start .pre .1 .0) zero _ (start .pre .0),
+      u-ready (tu-node-joins t start) _ _ _ (start .pre .1 .1) _ (start .pre .1 .0) zero (tu-node-headed t (c .before .before .before .before .before .before .before .before .before .before .before) ∙ not-false _ (c .before .before .before .before .before .before .before .before .before .before .if2 .left)),
+    )
 
 tu-node-leave-tu-requires : (t : ℕ) → tu-node-lts.Need-leave-tu-requires (tu-node-claims t) (tu-node-at t) tu-node.Post
-tu-node-leave-tu-requires t c κs = (c .before .before .before .before .before .before .before .before .before .before .before .before .before .before .before .before .before .before .before .pre .1 .0, c .before .some-rule .ensures .walked .tables .u-room)
+tu-node-leave-tu-requires t c κs = (tu-node-start t (c .before .before .before .before .before .before .before .before .before .before .before .before .before .before .before) .pre .1 .0, c .before .some-rule .ensures .walked .tables .u-room)
 
-tu-node-returns-4 : (t : ℕ) → tu-node-lts.Need-returns-4 (tu-node-claims t) (tu-node-at t) tu-node.Post
-tu-node-returns-4 t c =
-    let start = tu-node-start t (c .before .before .before .before .before .before .before .before .before .before .before .before .before .before) in
-    u-leaves (tu-node-joins t start) _ _ _ (start .pre .1 .1) _ (start .pre .1 .0) (c .before .before .before .before .before .before .before .before .before .before .before .before .before .before .if1 .left) _ (c .before .before .before .before .before .before .before .before .before .before .before .before .before .complement .ensures) (tu-node-leaf t (c .before .before .before .before .before .before .before .before .before))
-    (sym (c .before .before .before .before .before .before .before .before .contains .ensures) ∙ c .before .before .before .before .before .before .before .if3 .left) _ _ _ _ (c .before .before .some-rule .ensures) _ (c .leave-tu .ensures)
+tu-node-returns-5 : (t : ℕ) → tu-node-lts.Need-returns-5 (tu-node-claims t) (tu-node-at t) tu-node.Post
+tu-node-returns-5 t c =
+    let at = c .before .before .before .before .before .before .before .before in
+    let start = tu-node-start t (c .before .before .before .before .before .before .before .before .before .before .before .before .before .before .before .before) in
+    u-leaves (tu-node-joins t start) _ _ _ (start .pre .1 .1) _ (start .pre .1 .0) (c .before .before .before .before .before .before .before .before .before .before .before .before .before .before .before .before .if1 .left) (tu-node-headed t (c .before .before .before .before .before .before .before .before .before .before .before .before .before .before) ∙ not-false _ (c .before .before .before .before .before .before .before .before .before .before .before .before .before .if2 .left))
+    _ (c .before .before .before .before .before .before .before .before .before .before .before .before .complement .ensures) _ (tu-node-heads t start _ (tu-node-other t (c .before .before .before .before .before .before .before .before .before .before .before .before))) (tu-node-leaf t at)
+    (sym (c .before .before .before .before .before .before .before .before .before .before .before .before .before .before .before .contains .ensures) ∙ c .before .before .before .before .before .before .before .if4 .left) _ _ _ _ (c .before .before .some-rule .ensures) _ (c .leave-tu .ensures)
 
 abbrev tu-search-Inv-loop : tu-search-lts.InvT-loop
 tu-search-Inv-loop first rules starts entries facts t₀ tu₀ visits₀ a t tu visits =
@@ -572,8 +631,8 @@ pub +all-children+child+some-rule+t-node+tu-node+tu-search-spec : {M : Type 1} �
       tu-node.Post,
       tu-search-below t,
       tu-search.Post,
-      leaf-says-reads.Asked,
-      leaf-says-reads.Learnt,
+      leaf-reads.Asked,
+      leaf-reads.Learnt,
     )
     (child-at t)
     child.Post
@@ -591,8 +650,8 @@ pub +all-children+child+some-rule+t-node+tu-node+tu-search-spec : {M : Type 1} �
     (child-found-requires-2 t)
     (child-returns-3 t)
     (child-enum-told-4 t)
-    (child-element-copy-out-leaf-says t)
-    (child-leaf-says-requires t)
+    (child-element-copy-out-leaf t)
+    (child-leaf-requires t)
     (child-returns-4 t))
     (λ t. some-rule-lts.spec (
       rules-end-reads.Asked,
@@ -624,6 +683,8 @@ pub +all-children+child+some-rule+t-node+tu-node+tu-search-spec : {M : Type 1} �
     (λ t. t-node-lts.spec (
       contains-reads.Asked,
       contains-reads.Learnt,
+      is-head-reads.Asked,
+      is-head-reads.Learnt,
       some-rule-below t,
       some-rule.Post,
       leave-t-reads.Asked,
@@ -638,23 +699,27 @@ pub +all-children+child+some-rule+t-node+tu-node+tu-search-spec : {M : Type 1} �
     (t-node-contains-requires t)
     (t-node-element-write-t t)
     (t-node-returns-2 t)
+    (t-node-is-head-requires t)
+    (t-node-returns-3 t)
     (t-node-add-visits t)
     (t-node-element-write-t-2 t)
     (t-node-some-rule-requires t)
     (t-node-leave-t-requires t)
     (t-node-holds-requires t)
-    (t-node-returns-3 t))
+    (t-node-returns-4 t))
     (λ t. tu-node-lts.spec (
       found-reads.Asked,
       found-reads.Learnt,
-      complement-reads.Asked,
-      complement-reads.Learnt,
-      leaf-says-reads.Asked,
-      leaf-says-reads.Learnt,
-      holds-reads.Asked,
-      holds-reads.Learnt,
       contains-reads.Asked,
       contains-reads.Learnt,
+      is-head-reads.Asked,
+      is-head-reads.Learnt,
+      complement-reads.Asked,
+      complement-reads.Learnt,
+      leaf-reads.Asked,
+      leaf-reads.Learnt,
+      holds-reads.Asked,
+      holds-reads.Learnt,
       some-rule-below t,
       some-rule.Post,
       leave-tu-reads.Asked,
@@ -665,18 +730,20 @@ pub +all-children+child+some-rule+t-node+tu-node+tu-search-spec : {M : Type 1} �
     (tu-node-element-copy-out-known t)
     (tu-node-found-requires t)
     (tu-node-returns t)
-    (tu-node-complement-requires t)
-    (tu-node-element-copy-out-leaf-says t)
-    (tu-node-leaf-says-requires t)
-    (tu-node-holds-requires t)
-    (tu-node-returns-2 t)
     (tu-node-contains-requires t)
+    (tu-node-is-head-requires t)
+    (tu-node-returns-2 t)
+    (tu-node-complement-requires t)
+    (tu-node-element-copy-out-leaf t)
+    (tu-node-leaf-requires t)
+    (tu-node-holds-requires t)
     (tu-node-returns-3 t)
+    (tu-node-returns-4 t)
     (tu-node-add-visits t)
     (tu-node-element-write-tu t)
     (tu-node-some-rule-requires t)
     (tu-node-leave-tu-requires t)
-    (tu-node-returns-4 t))
+    (tu-node-returns-5 t))
     λ t. tu-search-lts.spec (
       tu-node-below t,
       tu-node.Post,
@@ -701,4 +768,3 @@ pub +all-children+child+some-rule+t-node+tu-node+tu-search-spec : {M : Type 1} �
     (tu-search-t-node-requires t)
     (tu-search-loop-less t)
     (tu-search-loop-again t)
-

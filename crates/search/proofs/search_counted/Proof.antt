@@ -33,7 +33,7 @@ indexed c = c .before .before .before .before .before .before .before .before .b
 returns-2 : tie.Need-returns-2
 returns-2 c =
     let by = indexed (c .before .before) in
-    let start = by .before .before in
+    let start = by .before .before .before .before .before in
     let walked = c .before .before .walk .ensures in (
       decided-not (start .args .t1) _ (long start) _ (by .index-of .ensures) _ _ _ _ _ (walked .0) (c .before .before .before .decided-by .ensures) (c .before .if2 .taken),
       as-few-visits (start .args .t1) _ (long start) _ (by .index-of .ensures) _ (walked .1),
@@ -42,7 +42,7 @@ returns-2 c =
 returns-3 : tie.Need-returns-3
 returns-3 c =
     let by = indexed (c .before) in
-    let start = by .before .before in
+    let start = by .before .before .before .before .before in
     let walked = c .before .walk .ensures in (
       decided-plain (start .args .t1) _ (long start) _ (by .index-of .ensures) _ _ _ _ _ (walked .0) (c .before .before .decided-by .ensures) (c .if2 .left),
       as-few-visits (start .args .t1) _ (long start) _ (by .index-of .ensures) _ (walked .1),
