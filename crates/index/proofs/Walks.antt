@@ -9,14 +9,14 @@ use native.Mathlib.Omega.{arith}
 use lib.Dec.{eqb, ltb}
 use lib.ListN.{getD, take, drop}
 use borrow.Author.Tests.{eq-eqb, ne-eqb, lt-ltb, le-ltb}
-use Rattle.wfsx.specs.Program.{Entry, Rule, Program}
+use Rattle.wfsx.specs.Program.{Entry}
 use Rattle.wfsx.specs.Model.{every, supported}
 use Rattle.wfsx.proofs.Supported.{supported-none, supported-first, supported-append}
 use Rattle.litset.specs.Words.{capacity}
 use Rattle.book.specs.Book.{bodyOf, rulesIn}
 use Rattle.book.proofs.Parts.{part-step, part-end}
 use Rattle.book.proofs.Heads.{past-unsupported}
-use Rattle.index.specs.Index.{rulesWith, headStarts, headRules, rulesStart, rulesEnd, rulesAt, some, supportedBy, rulesBy}
+use Rattle.index.specs.Index.{headStarts, headRules, rulesStart, rulesEnd, rulesAt, some, supportedBy, rulesBy}
 use Rattle.index.proofs.Indexed.{rules-of, some-none, some-first, supported-by}
 
 -- all entries of rule r pass

@@ -1,9 +1,9 @@
 -- What the marks say stays so (`Right`): one law for each way in which the sets of marked literals change. A literal that fails below T-ancestors may as well be one of
 -- them, so what was found below it stays; one that holds may not, so what failed or was held below it is forgotten.
-use mathlib.Core.Path.{_≡_, refl, sym, _∙_, ap}
-use mathlib.Core.Bool.{Bool, true, false, _||_}
+use mathlib.Core.Path.{_≡_, refl, _∙_}
+use mathlib.Core.Bool.{Bool, _||_}
 use mathlib.Core.List.{List}
-use Prim.Native.Nat.{ℕ, _≤_, _<_}
+use Prim.Native.Nat.{ℕ, _<_}
 use native.Mathlib.Decide.{ℕ-discrete}
 use native.Mathlib.Omega.{arith}
 use lib.ListN.{getD}

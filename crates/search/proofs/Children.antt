@@ -1,14 +1,14 @@
 -- A child of a node, one law for each kind of tree and of entry.
 use mathlib.Core.Path.{_≡_, refl, _∙_, ap}
 use mathlib.Core.Bool.{Bool, true, false, not}
-use Prim.Native.Nat.{ℕ, _+_, _<_}
+use Prim.Native.Nat.{ℕ, _<_}
 use native.Mathlib.Omega.{arith}
 use lib.ListN.{getD}
-use Rattle.truth.proofs.Truth.{clash, not-intro}
-use Rattle.wfsx.specs.Sets.{Set, ∅}
+use Rattle.truth.proofs.Truth.{not-intro}
+use Rattle.wfsx.specs.Sets.{∅}
 use Rattle.wfsx.specs.Program.{Program}
 use Rattle.wfsx.specs.Model.{headed}
-use Rattle.wfsx.specs.Trees.{T, TU, tree}
+use Rattle.wfsx.specs.Trees.{T, TU}
 use Rattle.wfsx.proofs.Trees.{first-way}
 use Rattle.litset.specs.Words.{capacity}
 use Rattle.book.specs.declared.Entry.{Entry}

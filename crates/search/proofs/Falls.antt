@@ -7,13 +7,13 @@ use mathlib.Core.List.{List}
 use Prim.Native.Nat.{ℕ, _+_, _*_, _<_}
 use native.Mathlib.Omega.{arith}
 use lib.Dec.{eqb}
-use lib.ListN.{length, getD, set}
+use lib.ListN.{getD, set}
 use Rattle.wfsx.specs.Sets.{Set}
 use Rattle.wfsx.specs.Program.{Program}
 use Rattle.wfsx.specs.Trees.{Tree, T, TU}
 use Rattle.litset.specs.Words.{capacity}
 use Rattle.search.specs.Marks.{others}
-use Rattle.search.specs.Walk.{State, state, Tables, Walked}
+use Rattle.search.specs.Walk.{State, Tables, Walked}
 use Rattle.search.proofs.Marks.{others-same, count-set-less, count-most}
 
 abbrev every-literal : Set

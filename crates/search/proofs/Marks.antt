@@ -5,7 +5,7 @@ use mathlib.Core.Bool.{Bool, true, false, not, cond, _&&_, _||_}
 use mathlib.Core.List.{List, [], _∷_}
 use Prim.Native.Nat.{ℕ, zero, suc, _+_, _≤_, _<_}
 use native.Mathlib.Omega.{arith}
-use native.Mathlib.Decide.{ℕ-discrete, decLt}
+use native.Mathlib.Decide.{ℕ-discrete}
 use native.Mathlib.Nat.{suc-inj}
 use lib.Dec.{eqb}
 use lib.ListN.{length, getD, set, length-set, length-map}
@@ -108,11 +108,6 @@ module _ (from to : ℕ) (some-mark : 0 < from) where
         go : Dec (getD s A 0 ≡ from) → (A ∈ marked from s) ⊎ (A ∈ marked to s)
         go (yes e) = inl (marked-is from s A e)
         go (no e) = inr (marked-is to s A (sym (turned-other from to (getD s A 0) e) ∙ sym (turned-at s A) ∙ marked-at to (turnedIn from to s) A m))
-
-    pub turned-keeps : (A : ℕ) → (to ≡ from → ⊥) → A ∈ marked to s → A ∈ marked to (turnedIn from to s)
-    turned-keeps A n m =
-        let there : getD s A 0 ≡ to = marked-at to s A m in
-        marked-is to (turnedIn from to s) A (turned-at s A ∙ turned-other from to (getD s A 0) (λ e. n (sym there ∙ e)) ∙ there)
 
     pub turned-small : (n : ℕ) → to ≤ n → ((A : ℕ) → getD s A 0 ≤ n) → (A : ℕ) → getD (turnedIn from to s) A 0 ≤ n
     turned-small n l k A = rw (turned-at s A) (go (getD s A 0) (k A) (ℕ-discrete (getD s A 0) from))

@@ -1,16 +1,16 @@
 -- The question: nothing stands above it, so what a walk is sure of and what may be are the same. The tables begin without a mark, and the index gives the rules of the book.
 use mathlib.Core.Path.{_≡_, refl, sym, _∙_, ap, fun-ext, subst}
-use mathlib.Core.Bool.{Bool, true, false, not, cond, _||_, and-false}
+use mathlib.Core.Bool.{Bool, true, false, not, cond, _||_}
 use mathlib.Core.List.{List}
-use Prim.Native.Nat.{ℕ, zero, suc, _+_, _≤_, _<_}
+use Prim.Native.Nat.{ℕ, zero, suc, _≤_, _<_}
 use native.Mathlib.Decide.{decLt}
 use native.Mathlib.Omega.{arith}
-use lib.Dec.{eqb, ltb}
+use lib.Dec.{ltb}
 use lib.ListN.{length, getD, replicate, length-replicate}
 use borrow.Author.Tests.{lt-ltb, le-ltb}
 use Rattle.truth.proofs.Truth.{clash, refuted, or-none}
-use Rattle.wfsx.specs.Sets.{Set, _∈_, _∉_, ∅, members}
-use Rattle.wfsx.specs.Program.{compl, Entry, positive, default, Program}
+use Rattle.wfsx.specs.Sets.{Set, _∉_, ∅, members}
+use Rattle.wfsx.specs.Program.{Entry, positive, default, Program}
 use Rattle.wfsx.specs.Model.{supported, headed}
 use Rattle.wfsx.specs.Trees.{Tree, T, TU, child, tree, answer}
 use Rattle.wfsx.proofs.Sets.{⊆-antisym}
@@ -22,7 +22,7 @@ use Rattle.litset.proofs.Words.{member-room}
 use Rattle.book.specs.Book.{programOf, rulesOf}
 use Rattle.book.specs.declared.Book.{Book}
 use Rattle.book.proofs.Heads.{program-of, past-unsupported}
-use Rattle.index.specs.Index.{headStarts, headRules, rulesStart, rulesEnd, supportedBy, rulesBy, indexOf}
+use Rattle.index.specs.Index.{rulesStart, rulesEnd, supportedBy, rulesBy, indexOf}
 use Rattle.index.specs.declared.Index.{Index}
 use Rattle.index.proofs.Walks.{rules-some, rules-none, supported-below, indexed-same}
 use Rattle.search.specs.declared.Tree as declared

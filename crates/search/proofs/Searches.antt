@@ -6,7 +6,7 @@ use mathlib.Core.Bool.{Bool, true, false}
 use mathlib.Core.List.{List}
 use Prim.Native.Nat.{ℕ, _+_, _≤_, _<_}
 use native.Mathlib.Omega.{arith}
-use lib.ListN.{length, getD}
+use lib.ListN.{getD}
 use Rattle.truth.proofs.Truth.{clash}
 use Rattle.wfsx.specs.Sets.{Set, _∈_, _∉_, _⊆_, ∅}
 use Rattle.wfsx.specs.Program.{Program}
@@ -16,8 +16,8 @@ use Rattle.wfsx.proofs.Sets.{⊆-antisym}
 use Rattle.litset.specs.Words.{capacity}
 use Rattle.search.specs.declared.Finding.{Finding}
 use Rattle.search.specs.Bound.{headCount}
-use Rattle.search.specs.Marks.{marked, aboveIn, pathIn, turnedIn}
-use Rattle.search.specs.Walk.{State, state, Tables, Resting, leftIn, Paid, kept, Ready, Walked, Says, Visited, TVisit, TuVisit, TuSearch}
+use Rattle.search.specs.Marks.{marked, turnedIn}
+use Rattle.search.specs.Walk.{State, state, Resting, leftIn, kept, Ready, Walked, Says, TVisit, TuVisit, TuSearch}
 use Rattle.search.proofs.Marks.{marked-is, marked-at, marked-not, turned-room, turned-gone, turned-same, turned-into, turned-small}
 use Rattle.search.proofs.Answers.{right-false}
 use Rattle.search.proofs.Stock.{settled-left, forgotten-left}

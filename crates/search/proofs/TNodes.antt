@@ -7,8 +7,8 @@ use Prim.Native.Nat.{ℕ, _+_, _≤_, _<_}
 use native.Mathlib.Omega.{arith}
 use lib.Dec.{eqb}
 use lib.ListN.{length, getD, set, length-set}
-use borrow.Author.Tests.{eqb-true, eqb-false, eq-eqb}
-use Rattle.truth.proofs.Truth.{clash, or-l}
+use borrow.Author.Tests.{eqb-true, eqb-false}
+use Rattle.truth.proofs.Truth.{clash}
 use Rattle.wfsx.specs.Sets.{Set, _∈_, _∉_, ∅, add}
 use Rattle.wfsx.specs.Program.{Entry, Program}
 use Rattle.wfsx.specs.Model.{headed}
@@ -19,7 +19,7 @@ use Rattle.litset.specs.Words.{capacity}
 use Rattle.search.specs.declared.Finding.{Finding}
 use Rattle.search.specs.Bound.{headCount}
 use Rattle.search.specs.Marks.{marked, aboveIn, turnedIn, tLeft, heldLeft, isHolds, blanks}
-use Rattle.search.specs.Walk.{State, state, Right, Tables, Resting, stock, leftIn, Paid, kept, Spent, Ready, Walked, Says, Visited, Settled, TVisit, sureAt, mayAt}
+use Rattle.search.specs.Walk.{State, state, Right, Tables, Resting, stock, leftIn, Paid, kept, Spent, Ready, Walked, Says, Visited, TVisit, sureAt, mayAt}
 use Rattle.search.proofs.Marks.{marked-at, marked-not, mark-same, mark-added, mark-removed, small-set, turned-room, turned-gone, turned-same, turned-small}
 use Rattle.search.proofs.Answers.{Joined, by-rule, by-fact, by-none, right-proved, right-down, right-failed, right-passed, t-holds, t-not}
 use Rattle.search.proofs.Stock.{t-fact-less, t-mark-less, t-fails-left, t-holds-left}

@@ -2,7 +2,7 @@
 -- and its mark makes room for the answer on the way up. Then the search of a TU-tree, which ends or opens the T-tree that is waited for.
 use mathlib.Core.Path.{_≡_, refl, sym, _∙_, ap}
 use mathlib.Core.Logic.{_⊎_, inl, inr}
-use mathlib.Core.Bool.{Bool, true, false, not, and-false}
+use mathlib.Core.Bool.{Bool, true, false, and-false}
 use mathlib.Core.List.{List}
 use Prim.Native.Nat.{ℕ, _+_, _≤_, _<_}
 use native.Mathlib.Decide.{ℕ-discrete}
@@ -16,19 +16,19 @@ use Rattle.wfsx.specs.Sets.{Set, _∈_, _∉_, _⊆_, ∅, add}
 use Rattle.wfsx.specs.Program.{compl, Entry, default, Program}
 use Rattle.wfsx.specs.Model.{supported, headed}
 use Rattle.wfsx.specs.Trees.{T, TU, child, tree}
-use Rattle.wfsx.proofs.Sets.{⊆-antisym, add-has, ⊆-add, with-one}
+use Rattle.wfsx.proofs.Sets.{add-has, ⊆-add, with-one}
 use Rattle.wfsx.proofs.Supported.{supported-seminormal}
 use Rattle.wfsx.proofs.Trees.{complement-once, second-way}
 use Rattle.wfsx.proofs.Ancestors.{t-headless, u-shorter, u-agrees, u-has, u-fails, u-headless}
 use Rattle.litset.specs.Words.{capacity}
 use Rattle.litset.proofs.Words.{compl-small}
 use Rattle.search.specs.declared.Finding.{Finding}
-use Rattle.search.specs.Marks.{marked, aboveIn, shutIn, pathIn, turnedIn, uLeft, isHolds, found, leafSays, blanks}
-use Rattle.search.specs.Walk.{State, state, Right, Tables, Resting, Spent, Ready, Walked, Says, Visited, TVisit, TuVisit, TuSearch, sureAt, mayAt}
-use Rattle.search.proofs.Marks.{marked-is, marked-at, marked-not, mark-same, mark-added, mark-removed, small-set, turned-room, turned-gone, turned-same, turned-into, turned-keeps, turned-small}
-use Rattle.search.proofs.Answers.{Joined, by-rule, by-fact, by-none, right-false, right-held, t-holds, t-not, u-holds, u-not}
-use Rattle.search.proofs.Stock.{u-mark-less, u-left, settled-left, forgotten-left}
-use Rattle.search.proofs.Visits.{Going, T≢TU, walked-none, walked-either, walked-more, paid-more, spent-none, spent-holds, spent-fails}
+use Rattle.search.specs.Marks.{marked, aboveIn, pathIn, turnedIn, uLeft, isHolds, found, leafSays}
+use Rattle.search.specs.Walk.{State, state, Right, Tables, Resting, Spent, Ready, Walked, Says, Visited, TuVisit, sureAt, mayAt}
+use Rattle.search.proofs.Marks.{marked-at, marked-not, mark-same, mark-added, mark-removed, small-set, turned-room, turned-gone, turned-same, turned-small}
+use Rattle.search.proofs.Answers.{Joined, by-rule, by-fact, by-none, right-held, t-holds, t-not, u-holds, u-not}
+use Rattle.search.proofs.Stock.{u-mark-less, u-left}
+use Rattle.search.proofs.Visits.{walked-none, spent-none}
 
 -- ---- a leaf
 

@@ -1,16 +1,14 @@
 -- One visit after another: the marks are those that were handed in, so what is asked of a child is the same all along a loop.
-use mathlib.Core.Path.{_≡_, refl, sym, _∙_, ap, subst}
+use mathlib.Core.Path.{_≡_, refl, sym, _∙_, ap}
 use mathlib.Core.Bool.{Bool, true, false}
 use mathlib.Core.List.{List}
-use Prim.Native.Nat.{ℕ, _+_, _≤_, _<_}
+use Prim.Native.Nat.{ℕ}
 use native.Mathlib.Nat.{le-refl}
 use native.Mathlib.Omega.{arith}
-use lib.ListN.{getD}
 use Rattle.truth.proofs.Truth.{clash}
 use Rattle.wfsx.specs.Program.{Entry, Program}
 use Rattle.wfsx.specs.Model.{every}
 use Rattle.wfsx.specs.Trees.{Tree, T, TU}
-use Rattle.litset.specs.Words.{capacity}
 use Rattle.search.specs.declared.Finding.{Finding}
 use Rattle.search.specs.Marks.{isHolds, isFails}
 use Rattle.search.specs.Walk.{State, Tables, Resting, Paid, kept, Spent, Ready, Walked, Says, Visited, sureAt, mayAt}

@@ -1,9 +1,9 @@
 -- What a walk of the trees may keep from one node for another. T-trees lose and TU-trees gain by more T-ancestors, and TU-trees lose by a longer
 -- local path. Where a node fails, the literal may as well be an ancestor: it prunes nothing that holds. So what was learnt below a node that
 -- failed stays true above it, and a literal whose children hold with no ancestors holds with none. Laws of the unfolding equation alone.
-use mathlib.Core.Path.{_≡_, refl, sym, _∙_, ap, subst, fun-ext}
+use mathlib.Core.Path.{_≡_, refl, sym, _∙_, ap}
 use mathlib.Core.Logic.{_⊎_, inl, inr}
-use mathlib.Core.Bool.{Bool, true, false, not, _&&_, _||_, and-false}
+use mathlib.Core.Bool.{Bool, true, not, _&&_, and-false}
 use Prim.Native.Nat.{ℕ, zero, suc, _≤_}
 use native.Mathlib.Omega.{arith}
 use native.Mathlib.Nat.{le-refl}

@@ -1,12 +1,12 @@
 -- A fact is supported whatever the test, so the facts put in join what the rules support.
 use mathlib.Core.Path.{_≡_, refl, sym, _∙_, ap}
 use mathlib.Core.Bool.{Bool, true, _&&_, _||_}
-use mathlib.Core.List.{List, [], _∷_, _++_, List·Memᴰ·head, List·Memᴰ·tail, map}
+use mathlib.Core.List.{List, [], _∷_, List·Memᴰ·head, List·Memᴰ·tail, map}
 use Prim.Native.Nat.{ℕ, _<_}
 use lib.Dec.{eqb}
 use borrow.Author.Tests.{eq-eqb}
 use Rattle.wfsx.specs.Sets.{Set, _∈_, _isIn_, members}
-use Rattle.wfsx.specs.Program.{Entry, Rule, Program, fact, withFacts}
+use Rattle.wfsx.specs.Program.{Entry, Rule, fact, withFacts}
 use Rattle.wfsx.specs.Model.{every, supported}
 use Rattle.truth.proofs.Truth.{same-test, or-l, or-r}
 use Rattle.wfsx.proofs.Members.{members-are}

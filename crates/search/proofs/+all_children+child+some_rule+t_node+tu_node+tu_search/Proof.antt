@@ -505,15 +505,20 @@ tu-node-some-rule-requires t c κs =
     )
 
 tu-node-leave-tu-requires : (t : ℕ) → tu-node-lts.Need-leave-tu-requires (tu-node-claims t) (tu-node-at t) tu-node.Post
-tu-node-leave-tu-requires t c κs = (tu-node-start t (c .before .before .before .before .before .before .before .before .before .before .before .before .before .before .before) .pre .1 .0, c .before .some-rule .ensures .walked .tables .u-room)
+tu-node-leave-tu-requires t c κs =
+    let at = c .before .before .before .before .before .before .before in
+    (tu-node-start t (at .before .before .before .before .before .before .before .before) .pre .1 .0, c .before .some-rule .ensures .walked .tables .u-room)
 
 tu-node-returns-5 : (t : ℕ) → tu-node-lts.Need-returns-5 (tu-node-claims t) (tu-node-at t) tu-node.Post
 tu-node-returns-5 t c =
     let at = c .before .before .before .before .before .before .before .before in
-    let start = tu-node-start t (c .before .before .before .before .before .before .before .before .before .before .before .before .before .before .before .before) in
-    u-leaves (tu-node-joins t start) _ _ _ (start .pre .1 .1) _ (start .pre .1 .0) (c .before .before .before .before .before .before .before .before .before .before .before .before .before .before .before .before .if1 .left) (tu-node-headed t (c .before .before .before .before .before .before .before .before .before .before .before .before .before .before) ∙ not-false _ (c .before .before .before .before .before .before .before .before .before .before .before .before .before .if2 .left))
-    _ (c .before .before .before .before .before .before .before .before .before .before .before .before .complement .ensures) _ (tu-node-heads t start _ (tu-node-other t (c .before .before .before .before .before .before .before .before .before .before .before .before))) (tu-node-leaf t at)
-    (sym (c .before .before .before .before .before .before .before .before .before .before .before .before .before .before .before .contains .ensures) ∙ c .before .before .before .before .before .before .before .if4 .left) _ _ _ _ (c .before .before .some-rule .ensures) _ (c .leave-tu .ensures)
+    let other = at .before .before .before .before in
+    let headed = other .before .before in
+    let first = headed .before .before in
+    let start = tu-node-start t first in
+    u-leaves (tu-node-joins t start) _ _ _ (start .pre .1 .1) _ (start .pre .1 .0) (first .if1 .left) (tu-node-headed t headed ∙ not-false _ (other .before .if2 .left))
+    _ (other .complement .ensures) _ (tu-node-heads t start _ (tu-node-other t other)) (tu-node-leaf t at) (sym (headed .before .contains .ensures) ∙ c .before .before .before .before .before .before .before .if4 .left)
+    _ _ _ _ (c .before .before .some-rule .ensures) _ (c .leave-tu .ensures)
 
 abbrev tu-search-Inv-loop : tu-search-lts.InvT-loop
 tu-search-Inv-loop first rules starts entries facts t₀ tu₀ visits₀ a t tu visits =

@@ -1,8 +1,8 @@
 -- `turn`: the marks before place i are turned, and those behind it are as they were.
-use mathlib.Core.Path.{_≡_, _∙_, ap}
-use Prim.Native.Nat.{ℕ, _-_}
+use mathlib.Core.Path.{_∙_, ap}
+use Prim.Native.Nat.{_-_}
 use native.Mathlib.Omega.{arith}
-use lib.ListN.{length, getD}
+use lib.ListN.{getD}
 use borrow.Author.Needs.{needs}
 use Rattle.litset.specs.Words.{capacity}
 use Rattle.search.specs.Marks.{turned}

@@ -1,5 +1,4 @@
 -- `walk`: the tables begin without a mark.
-use borrow.Author.Needs.{needs}
 use Rattle.search.proofs.Questions.{first-ready}
 use Rattle.search.proofs.walk.Statement.{statement}
 use Rattle.search.proofs.walk.Tie as tie
