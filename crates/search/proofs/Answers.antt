@@ -1,5 +1,6 @@
--- What the marks say stays so (`Right`): one law for each way in which the sets of marked literals change. A literal that fails below T-ancestors may as well be one of
--- them, so what was found below it stays; one that holds may not, so what failed or was held below it is forgotten.
+-- What the marks say stays so (`Right`): one law for each way in which the sets of marked literals change. A literal that fails below
+-- T-ancestors may as well be one of them, so what was found below it stays; one that holds may not, so what failed or was held below it is
+-- forgotten.
 use mathlib.Core.Path.{_≡_, refl, _∙_}
 use mathlib.Core.Bool.{Bool, _||_}
 use mathlib.Core.List.{List}

@@ -1,6 +1,6 @@
--- The falling number of the walk: the literals outside the T-ancestors, weighted, and in a TU-tree the literals outside the local path. A T-node that goes on has a new
--- T-ancestor, and a TU-node that goes on a longer path. Between two nodes stand the loop over rules, the loop over entries, the child and the search of a TU-tree: so each
--- number is taken six times, with up to 4 added.
+-- The falling number of the walk: the literals outside the T-ancestors, weighted, and in a TU-tree the literals outside the local path. A
+-- T-node that goes on has a new T-ancestor, and a TU-node that goes on a longer path. Between two nodes stand the loop over rules, the loop
+-- over entries, the child and the search of a TU-tree: so each number is taken six times, with up to 4 added.
 use mathlib.Core.Path.{_≡_, refl, sym, _∙_}
 use mathlib.Core.Bool.{true, not}
 use mathlib.Core.List.{List}

@@ -1,5 +1,6 @@
--- The two loops of the walk. Over the entries of a body: as long as all children hold, the entries that are left decide whether all do; one that fails fails the body,
--- whatever the others are. Over the rules of a literal: as long as all bodies fail, the rules that are left decide; one whose children hold is enough.
+-- The two loops of the walk. Over the entries of a body: as long as all children hold, the entries that are left decide whether all do; one
+-- that fails fails the body, whatever the others are. Over the rules of a literal: as long as all bodies fail, the rules that are left
+-- decide; one whose children hold is enough.
 use mathlib.Core.Path.{_≡_, sym, _∙_, ap}
 use mathlib.Core.Bool.{true, false}
 use mathlib.Core.List.{List}

@@ -1,4 +1,5 @@
--- The question: nothing stands above it, so what a walk is sure of and what may be are the same. The tables begin without a mark, and the index gives the rules of the book.
+-- The question: nothing stands above it, so what a walk is sure of and what may be are the same. The tables begin without a mark, and the
+-- index gives the rules of the book.
 use mathlib.Core.Path.{_≡_, refl, sym, _∙_, ap, fun-ext, subst}
 use mathlib.Core.Bool.{Bool, true, false, not, cond, _||_}
 use mathlib.Core.List.{List}

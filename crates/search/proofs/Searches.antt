@@ -1,5 +1,5 @@
--- The search of a TU-tree: its root holds, or fails and then all that failed with it is false, or it waits. Then the shut literals are forgotten, and the T-tree that is
--- opened pays for the path that was walked in vain, so that each round leaves less.
+-- The search of a TU-tree: its root holds, or fails and then all that failed with it is false, or it waits. Then the shut literals are
+-- forgotten, and the T-tree that is opened pays for the path that was walked in vain, so that each round leaves less.
 use mathlib.Core.Path.{_≡_, refl, sym, _∙_, ap}
 use mathlib.Core.Logic.{⊎-elim}
 use mathlib.Core.Bool.{Bool, true, false}

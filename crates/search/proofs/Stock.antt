@@ -1,5 +1,5 @@
--- The visits and what they are paid with. The stock counts heads alone, so each of its counts is at most their number. One law for each store and turn says what it
--- leaves, and the rest is linear.
+-- The visits and what they are paid with. The stock counts heads alone, so each of its counts is at most their number. One law for each
+-- store and turn says what it leaves, and the rest is linear.
 use mathlib.Core.Path.{_≡_, refl, sym, _∙_, ap, ap₂}
 use mathlib.Core.Bool.{Bool, not, _&&_}
 use mathlib.Core.List.{List}

@@ -1,5 +1,5 @@
--- A node of a T-tree, one law for each way through it: its mark is known, it is a fact, it is marked on the way down, and its mark makes room for the answer on
--- the way up.
+-- A node of a T-tree, one law for each way through it: its mark is known, it is a fact, it is marked on the way down, and its mark makes
+-- room for the answer on the way up.
 use mathlib.Core.Path.{_≡_, refl, sym, _∙_, ap}
 use mathlib.Core.Bool.{Bool, true, false}
 use mathlib.Core.List.{List}

@@ -1,5 +1,6 @@
--- A node of a TU-tree, one law for each way through it: its mark is known, its added leaf fails or is waited for, it is a fact, it is put on the path on the way down,
--- and its mark makes room for the answer on the way up. Then the search of a TU-tree, which ends or opens the T-tree that is waited for.
+-- A node of a TU-tree, one law for each way through it: its mark is known, its added leaf fails or is waited for, it is a fact, it is put
+-- on the path on the way down, and its mark makes room for the answer on the way up. Then the search of a TU-tree, which ends or opens the
+-- T-tree that is waited for.
 use mathlib.Core.Path.{_≡_, refl, sym, _∙_, ap}
 use mathlib.Core.Logic.{_⊎_, inl, inr}
 use mathlib.Core.Bool.{Bool, true, false, and-false}
@@ -32,8 +33,8 @@ use Rattle.search.proofs.Visits.{walked-none, spent-none}
 
 -- ---- a leaf
 
--- What a leaf `not b` says by the mark of b, where `head` says whether b is a head. Without a mark it waits or, where b is no head, holds; else it fails where b holds, and
--- holds where b fails.
+-- What a leaf `not b` says by the mark of b, where `head` says whether b is a head. Without a mark it waits or, where b is no head, holds;
+-- else it fails where b holds, and holds where b fails.
 module _ {P : Program} {s : State} (r : Ready P TU s 0) (b : ℕ) (small : b < capacity) (head : Bool) (heads : headed P b ≡ head) where
   abbrev mark : ℕ
   mark = getD (s .t) b 0

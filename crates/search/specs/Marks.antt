@@ -22,8 +22,8 @@ failedIn t = marked 2 t
 abbrev pub aboveIn : List ℕ → Set
 aboveIn t = marked 3 t
 
--- In the table of TU-trees: the literals that fail whatever stands above them, those that hold below the present T-ancestors, those that failed in the
--- present tree, and its local path.
+-- In the table of TU-trees: the literals that fail whatever stands above them, those that hold below the present T-ancestors, those that
+-- failed in the present tree, and its local path.
 abbrev pub falseIn : List ℕ → Set
 falseIn u = marked 1 u
 

@@ -1,5 +1,5 @@
--- What a walk of the trees is handed, what it leaves and what it says (document 01, "From a question to its trees"; document 02, A.6). Each answer lies
--- between two answers of the trees' own definition, and at the question both are the same.
+-- What a walk of the trees is handed, what it leaves and what it says (document 01, "From a question to its trees"; document 02, A.6). Each
+-- answer lies between two answers of the trees' own definition, and at the question both are the same.
 use mathlib.Core.Path.{_≡_}
 use mathlib.Core.Bool.{Bool, true, false, _||_}
 use mathlib.Core.List.{List}
@@ -41,8 +41,9 @@ state t u visits = record { t = t; u = u; visits = visits }
 
 -- ---- what the marks say is so
 
--- T-trees hold for fewer literals and TU-trees for more as T-ancestors are added. So what is kept as holding in a T-tree holds below none, and what is kept as
--- failing fails below the present ones, X; what is kept as failing in a TU-tree fails below none, and what is kept as holding holds below X.
+-- T-trees hold for fewer literals and TU-trees for more as T-ancestors are added. So what is kept as holding in a T-tree holds below none,
+-- and what is kept as failing fails below the present ones, X; what is kept as failing in a TU-tree fails below none, and what is kept as
+-- holding holds below X.
 pub record Right (P : Program) (proved failed X false held : Set) : Type 0 where
   pub proved-right : proved ⊆ tree P T ∅ ∅
   pub failed-right : (A : ℕ) → A ∈ failed → A ∉ tree P T ∅ X
@@ -63,9 +64,9 @@ Resting P TU u = (A : ℕ) → A ∈ shutIn u → A ∉ tree P TU (pathIn u) ∅
 
 -- ---- what the visits are paid with
 
--- Marks of heads alone count. A T-node that asks its rules marks a literal of which nothing was known, and pays with that for itself and for a path that was
--- walked in vain. One that holds does so for good: it pays for all that is forgotten then. A TU-node that holds pays for the shut literals that are
--- forgotten, and one that asks its rules pays for itself with a mark where there was none.
+-- Marks of heads alone count. A T-node that asks its rules marks a literal of which nothing was known, and pays with that for itself and
+-- for a path that was walked in vain. One that holds does so for good: it pays for all that is forgotten then. A TU-node that holds pays
+-- for the shut literals that are forgotten, and one that asks its rules pays for itself with a mark where there was none.
 unfoldable pub stock : Program → List ℕ → List ℕ → ℕ
 stock P t u =
     others 1 (headed P) t * (2 * (headCount P * (headCount P + 1))) + (blanks (headed P) t * (headCount P + 1) + without 1 2 (headed P) u * headCount P)

@@ -1,11 +1,12 @@
-// The search of a question through its pruned trees. Ancestors are marks in two lent tables, set on the way down and taken off on the way up. The same
-// tables keep, for one search, what the trees answer for a literal, so that no tree is walked again for nothing. Neither M nor N is read.
+// The search of a question through its pruned trees. Ancestors are marks in two lent tables, set on the way down and taken off on the way
+// up. The same tables keep, for one search, what the trees answer for a literal, so that no tree is walked again for nothing. Neither M nor
+// N is read.
 ghost use mathlib.Core.Path.{_≡_};
 ghost use mathlib.Core.Bool.{_||_};
-ghost use Prim.Native.Nat.{ℕ, _<_, _≤_};
-ghost use lib.ListN.{length, getD};
-ghost use Rattle.wfsx.specs.Model.{every};
+ghost use Prim.Native.Nat.{_<_, _≤_};
+ghost use lib.ListN.{length};
 ghost use Rattle.wfsx.specs.Sets.{∅};
+ghost use Rattle.wfsx.specs.Model.{every};
 ghost use Rattle.wfsx.specs.Trees.{tree, answer, T, TU};
 ghost use Rattle.litset.specs.Words.{capacity, setOf};
 ghost use Rattle.book.specs.Book.{entryIs, literalIn, bodyOf, programOf};
@@ -16,7 +17,6 @@ ghost use Rattle.search.specs.Marks.{aboveIn, turned, turnedIn, tLeft, h
 ghost use Rattle.search.specs.Walk.{programBy, ruleIn, headIn, state, Ready, TVisit, TuVisit, TuSearch, Asked};
 use book::Book;
 use book::Entry;
-use index::Index;
 use litset::LitSet;
 
 pub enum Tree {
@@ -31,14 +31,15 @@ enum Finding {
     Waits(usize),
 }
 
-// Marks of a literal in T-trees; 0 is none.
+// Marks of a literal in T-trees: it holds, it fails below the present T-ancestors, it is one of them. 0 is none.
 const PROVED: u8 = 1;
 
 const FAILED: u8 = 2;
 
 const ABOVE: u8 = 3;
 
-// Marks of a literal in TU-trees; 0 is none.
+// Marks of a literal in TU-trees: it fails whatever stands above it, it holds below the present T-ancestors, it failed in the present tree,
+// it is on the tree's path. 0 is none.
 const FALSE: u8 = 1;
 
 const HELD: u8 = 2;
@@ -110,7 +111,9 @@ fn decided_by(tree: Tree, default: bool) -> Tree
     }
 }
 
-// The trees of this kind for a literal, with nothing above them. From here on the tables of the book are lent, and not copied.
+// The trees of this kind for a literal, with nothing above them. From here on the tables are lent, and not copied: `first` and `rules` are
+// those of the index, `starts` and `entries` those of the book, `t` and `tu` the marks in T-trees and in TU-trees; `visits` counts the
+// nodes that asked their rules.
 fn walk<'a>(
     first: &'a [u16],
     rules: &'a [u16],
@@ -234,8 +237,8 @@ fn is_head<'a>(first: &'a [u16], rules: &'a [u16], fact: bool, a: usize) -> bool
     index::rules_start(first, a) < index::rules_end(first, rules, a)
 }
 
-// What a leaf `not b` of a TU-tree says by the mark of `b` in T-trees. Where there is none a T-tree is wanted first, but for a literal that has no rule and is no
-// fact: that fails.
+// What a leaf `not b` of a TU-tree says by the mark of `b` in T-trees. Where there is none a T-tree is wanted first, if `b` is a head; if
+// it is not, it fails, and the leaf holds.
 fn leaf<'a>(first: &'a [u16], rules: &'a [u16], facts: LitSet, mark: u8, b: usize) -> Finding
     ensures { λ r. ⌜ r ≡ leafSays (headIn (now (first .entry)) (now (rules .entry)) (facts .words) b) mark b ⌝ }
 {
@@ -308,8 +311,8 @@ fn leave_t(t: &mut [u8; litset::CAPACITY], tu: &mut [u8; litset::CAPACITY], a: u
 
 // ---- TU-trees
 
-// The TU-trees for a literal. A T-tree that one of them waits for is opened from here, and the walk begun again with what is then known: so no TU-tree
-// stands above a T-tree, and the stack is linear in the literals.
+// The TU-trees for a literal. A T-tree that one of them waits for is opened from here, and the walk begun again with what is then known: so
+// no TU-tree stands above a T-tree, and the stack is linear in the literals.
 fn tu_search<'a>(
     first: &'a [u16],
     rules: &'a [u16],
@@ -470,8 +473,8 @@ fn all_children<'a>(
     Finding::Holds
 }
 
-// A child of a node. In a T-tree the second way of a leaf, a T-tree for the complement, is left out: it follows from the first (`first-way`). A leaf of a
-// TU-tree opens nothing itself.
+// A child of a node. In a T-tree the second way of a leaf, a T-tree for the complement, is left out: it follows from the first
+// (`first-way`). A leaf of a TU-tree opens nothing itself.
 fn child<'a>(
     first: &'a [u16],
     rules: &'a [u16],

@@ -60,6 +60,20 @@ fn samples() -> Vec<Sample> {
         .collect()
 }
 
+/// The examples that are not among the samples.
+fn other_examples() -> [Sample; 2] {
+    [
+        Sample {
+            label: "small: examples/circles.book",
+            file: include_bytes!("../../../examples/circles.book").into(),
+        },
+        Sample {
+            label: "small: examples/contradiction.book",
+            file: include_bytes!("../../../examples/contradiction.book").into(),
+        },
+    ]
+}
+
 /// The full random book of a seed.
 fn full_file(seed: u64) -> Vec<u8> {
     let book = gen::full_book(&mut Random::new(seed));
@@ -173,7 +187,7 @@ fn print_searches() {
     println!();
     println!("| book | questions | mean, µs | most, µs | model call, µs | mean / model call |");
     println!("|---|---|---|---|---|---|");
-    for sample in samples() {
+    for sample in samples().into_iter().chain(other_examples()) {
         print_questions(sample.label, &[sample.file]);
     }
     print_questions("deep: 60 and 60 names", &[deep_file()]);

@@ -1,5 +1,5 @@
--- The walk, as one cycle of calls: each visit leaves and says what the laws have for its way through the code, if the calls below it do, and each call has a smaller
--- falling number (`Falls`).
+-- The walk, as one cycle of calls: each visit leaves and says what the laws have for its way through the code, if the calls below it do,
+-- and each call has a smaller falling number (`Falls`).
 use mathlib.Core.Path.{_≡_, sym, ap, _∙_}
 use mathlib.Core.Bool.{true}
 use native.Mathlib.Omega.{arith}

@@ -1,5 +1,5 @@
--- `search_counted`: below the capacity the tree of the question's kind decides it, or for `not` that of the other kind, over the index of the book; past it no literal has a rule or is a
--- fact, so it fails and `not` of it holds.
+-- `search_counted`: below the capacity the tree of the question's kind decides it, or for `not` that of the other kind, over the index of
+-- the book; past it no literal has a rule or is a fact, so it fails and `not` of it holds.
 use mathlib.Core.Path.{_≡_}
 use native.Mathlib.Omega.{arith}
 use lib.ListN.{length}
