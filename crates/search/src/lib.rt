@@ -312,7 +312,7 @@ fn leave_t(t: &mut [u8; litset::CAPACITY], tu: &mut [u8; litset::CAPACITY], a: u
 // ---- TU-trees
 
 // The TU-trees for a literal. A T-tree that one of them waits for is opened from here, and the walk begun again with what is then known: so
-// no TU-tree stands above a T-tree, and the stack is linear in the literals.
+// no path of a TU-tree stands above a T-tree, and the stack is linear in the literals.
 fn tu_search<'a>(
     first: &'a [u16],
     rules: &'a [u16],
