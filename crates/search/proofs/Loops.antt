@@ -34,14 +34,14 @@ module _ {P : Program} {k : Tree} {s₀ s s′ : State} (g : Going P k s₀ s) w
     pub body-ends : isHolds f ≡ false → Visited P k s₀ s′ (every (sureAt P k s₀) (bodyOf starts entries i)) (every (mayAt P k s₀) (bodyOf starts entries i)) f
     body-ends n = ends-with f g v (λ h. absurd (clash h n)) (λ _ m. body-one l (mayAt P k s₀) inside (ap (mayAt P k s₀) (sym q) ∙ may-at g (entryIs e) m))
 
-  module _ {firsts rules starts entries : List ℕ} {a p : ℕ} (l : RulesLeft (mayAt P k s₀) firsts rules starts entries a p) (inside : p < rulesEnd firsts rules a) (i : ℕ) (q : i ≡ getD rules p 0)
+  module _ {first rules starts entries : List ℕ} {a p : ℕ} (l : RulesLeft (mayAt P k s₀) first rules starts entries a p) (inside : p < rulesEnd first rules a) (i : ℕ) (q : i ≡ getD rules p 0)
       (f : Finding) (v : Visited P k s s′ (every (sureAt P k s) (bodyOf starts entries i)) (every (mayAt P k s) (bodyOf starts entries i)) f) where
-    pub rules-go-on : isFails f ≡ true → Going P k s₀ s′ × RulesLeft (mayAt P k s₀) firsts rules starts entries a (p + 1)
+    pub rules-go-on : isFails f ≡ true → Going P k s₀ s′ × RulesLeft (mayAt P k s₀) first rules starts entries a (p + 1)
     rules-go-on h =
         let next = after-fails f g v h in
         (next .0, rules-more l inside (ap (λ (r : ℕ). every (mayAt P k s₀) (bodyOf starts entries r)) (sym q) ∙ may-all g (bodyOf starts entries i) (next .1)))
 
-    pub rules-end : isFails f ≡ false → Visited P k s₀ s′ (supportedBy firsts rules starts entries (sureAt P k s₀) a) (supportedBy firsts rules starts entries (mayAt P k s₀) a) f
+    pub rules-end : isFails f ≡ false → Visited P k s₀ s′ (supportedBy first rules starts entries (sureAt P k s₀) a) (supportedBy first rules starts entries (mayAt P k s₀) a) f
     rules-end n =
         ends-with f g v (λ _ m. rules-one l (sureAt P k s₀) inside (ap (λ (r : ℕ). every (sureAt P k s₀) (bodyOf starts entries r)) (sym q) ∙ sure-all g (bodyOf starts entries i) m))
         (λ h. absurd (clash h n))

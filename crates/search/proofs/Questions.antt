@@ -37,23 +37,23 @@ use Rattle.search.proofs.Stock.{left-most}
 
 -- ---- the program of an index
 
-module _ (firsts rules starts entries facts : List ℕ) (long : length facts ≡ nWords) where
+module _ (first rules starts entries facts : List ℕ) (long : length facts ≡ nWords) where
   abbrev P : Program
-  P = programBy firsts rules starts entries facts
+  P = programBy first rules starts entries facts
 
-  supported-is : (f : Entry → Bool) (A : ℕ) → supported P f A ≡ (supported (rulesBy firsts rules starts entries capacity) f A || setOf facts A)
+  supported-is : (f : Entry → Bool) (A : ℕ) → supported P f A ≡ (supported (rulesBy first rules starts entries capacity) f A || setOf facts A)
   unfolding programBy
-  supported-is f A = supported-facts (rulesBy firsts rules starts entries capacity) capacity (setOf facts) (member-room facts long) f A
+  supported-is f A = supported-facts (rulesBy first rules starts entries capacity) capacity (setOf facts) (member-room facts long) f A
 
-  pub joined-by : Joined P (supportedBy firsts rules starts entries) (setOf facts)
+  pub joined-by : Joined P (supportedBy first rules starts entries) (setOf facts)
   joined-by = record { joined = λ f A small. supported-is f A ∙ ap (λ (b : Bool). b || setOf facts A) (below f A small) }
     where
-      below : (f : Entry → Bool) (A : ℕ) → A < capacity → supported (rulesBy firsts rules starts entries capacity) f A ≡ supportedBy firsts rules starts entries f A
-      below f A small = supported-below firsts rules starts entries f A capacity ∙ rw (lt-ltb A capacity small) refl
+      below : (f : Entry → Bool) (A : ℕ) → A < capacity → supported (rulesBy first rules starts entries capacity) f A ≡ supportedBy first rules starts entries f A
+      below f A small = supported-below first rules starts entries f A capacity ∙ rw (lt-ltb A capacity small) refl
 
   -- its heads are the facts and the literals that have rules
-  pub headed-is : (A : ℕ) → A < capacity → headed P A ≡ headIn firsts rules facts A
-  headed-is A small = joined-by .joined (λ e. true) A small ∙ go (decLt (rulesStart firsts A) (rulesEnd firsts rules A)) (setOf facts A)
+  pub headed-is : (A : ℕ) → A < capacity → headed P A ≡ headIn first rules facts A
+  headed-is A small = joined-by .joined (λ e. true) A small ∙ go (decLt (rulesStart first A) (rulesEnd first rules A)) (setOf facts A)
     where
       or-swap : (b c : Bool) → (b || c) ≡ (c || b)
       or-swap true true = refl
@@ -61,14 +61,14 @@ module _ (firsts rules starts entries facts : List ℕ) (long : length facts ≡
       or-swap false true = refl
       or-swap false false = refl
 
-      go : Dec (rulesStart firsts A < rulesEnd firsts rules A) → (b : Bool)
-          → (supportedBy firsts rules starts entries (λ e. true) A || b) ≡ (b || ltb (rulesStart firsts A) (rulesEnd firsts rules A))
-      go (yes h) b = rw (rules-some firsts rules starts entries A h, lt-ltb (rulesStart firsts A) (rulesEnd firsts rules A) h) (or-swap true b)
-      go (no h) b = rw (rules-none firsts rules starts entries A (λ e. true) (omega arith), le-ltb (rulesStart firsts A) (rulesEnd firsts rules A) (omega arith)) (or-swap false b)
+      go : Dec (rulesStart first A < rulesEnd first rules A) → (b : Bool)
+          → (supportedBy first rules starts entries (λ e. true) A || b) ≡ (b || ltb (rulesStart first A) (rulesEnd first rules A))
+      go (yes h) b = rw (rules-some first rules starts entries A h, lt-ltb (rulesStart first A) (rulesEnd first rules A) h) (or-swap true b)
+      go (no h) b = rw (rules-none first rules starts entries A (λ e. true) (omega arith), le-ltb (rulesStart first A) (rulesEnd first rules A) (omega arith)) (or-swap false b)
 
   -- as the walk finds it
-  pub headed-by : (A : ℕ) → A < capacity → (fact r : Bool) → fact ≡ setOf facts A → r ≡ (fact || ruleIn firsts rules A) → headed P A ≡ r
-  headed-by A small fact r e q = headed-is A small ∙ ap (λ (b : Bool). b || ruleIn firsts rules A) (sym e) ∙ sym q
+  pub headed-by : (A : ℕ) → A < capacity → (fact r : Bool) → fact ≡ setOf facts A → r ≡ (fact || ruleIn first rules A) → headed P A ≡ r
+  headed-by A small fact r e q = headed-is A small ∙ ap (λ (b : Bool). b || ruleIn first rules A) (sym e) ∙ sym q
 
 -- ---- tables in which nothing stands
 

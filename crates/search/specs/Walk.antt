@@ -20,15 +20,15 @@ use Rattle.search.specs.declared.Finding.{Finding}
 -- ---- what it is handed
 
 -- the program of the rules that the index gives, and of the facts put in
-unfoldable pub programBy : (firsts rules starts entries facts : List ℕ) → Program
-programBy firsts rules starts entries facts = program (rulesBy firsts rules starts entries capacity) (setOf facts)
+unfoldable pub programBy : (first rules starts entries facts : List ℕ) → Program
+programBy first rules starts entries facts = program (rulesBy first rules starts entries capacity) (setOf facts)
 
 -- the literals that have a rule, and the heads of that program
-abbrev pub ruleIn : (firsts rules : List ℕ) → Set
-ruleIn firsts rules A = ltb (rulesStart firsts A) (rulesEnd firsts rules A)
+abbrev pub ruleIn : (first rules : List ℕ) → Set
+ruleIn first rules A = ltb (rulesStart first A) (rulesEnd first rules A)
 
-abbrev pub headIn : (firsts rules facts : List ℕ) → Set
-headIn firsts rules facts A = setOf facts A || ruleIn firsts rules A
+abbrev pub headIn : (first rules facts : List ℕ) → Set
+headIn first rules facts A = setOf facts A || ruleIn first rules A
 
 -- the two tables of marks, and how many nodes have asked their rules
 pub record State : Type 0 where
