@@ -5,15 +5,14 @@ use Rattle.wfsx.specs.Sets.{membersFrom}
 use Rattle.wfsx.specs.Program.{compl}
 use Rattle.wfsx.specs.Model.{every, supported, Γ, Γs, I, M, N, verdict}
 use Rattle.wfsx.specs.Trees.{cut, tree, answer}
-use Rattle.litset.specs.Words.{without}
+use Rattle.litset.specs.Words.{without, clashFrom}
 use Rattle.scan.specs.Text.{allBytes, split, lenTo, isName, sameBytes, wordOf}
 use Rattle.book.specs.Book.{sameName, findFrom}
 use Rattle.reader.specs.File.{bodyLiterals, allFields, wrongFields, malformed, declaredBefore, usesUndeclared, beyondTable, faultOf, lineFault, literalNumber, entryFrom, extended, withLine, readLines, readFile}
-use Rattle.lister.specs.Listing.{lastDigits, digits, line, nameLines, listingBy, clashFrom, listingOf}
-use Rattle.desk.specs.Listed.{programIn, inBook, listingIn, inOrder, putInSays, takeOutSays}
-use Rattle.desk.specs.Runs.{after}
+use Rattle.lister.specs.Listing.{lastDigits, digits, line, nameLines, listingBy, listingOf}
+use Rattle.lesson.specs.State.{inForce, programIn, inBook, listingIn, ifLoaded, inOrder, changeSays}
 use Rattle.desk.specs.Cases.{found, cases}
 
 pub cases-hold : map found cases ≡ cases
-unfolding membersFrom compl every supported Γ Γs I M N verdict cut tree answer without allBytes split lenTo isName sameBytes wordOf sameName findFrom bodyLiterals allFields wrongFields malformed declaredBefore usesUndeclared beyondTable faultOf lineFault literalNumber entryFrom extended withLine readLines readFile lastDigits digits line nameLines listingBy clashFrom listingOf programIn inBook listingIn inOrder putInSays takeOutSays after
+unfolding membersFrom compl every supported Γ Γs I M N verdict cut tree answer without allBytes split lenTo isName sameBytes wordOf sameName findFrom bodyLiterals allFields wrongFields malformed declaredBefore usesUndeclared beyondTable faultOf lineFault literalNumber entryFrom extended withLine readLines readFile lastDigits digits line nameLines listingBy clashFrom listingOf inForce programIn inBook listingIn ifLoaded inOrder changeSays
 cases-hold = refl

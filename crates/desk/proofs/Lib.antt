@@ -1,11 +1,11 @@
--- The laws of the lesson and of lists of calls.
-pub mod Order
-pub mod Meaning
-pub mod Replies
+-- The laws that each call of the desk owes, and the theorems on lists of calls.
+pub mod Laws
+pub mod LoadLaws
+pub mod LessonLaws
 pub mod Left
-pub mod Demand3
-pub mod Sound
 pub mod Demand1
 pub mod Demand2
+pub mod Demand3
+pub mod Answers
 pub mod Exists
 pub mod Cases

@@ -6,8 +6,9 @@ use Prim.Native.Nat.{ℕ}
 use Rattle.wfsx.specs.Model.{Verdict, is-true, is-false, is-undefined, verdict}
 use Rattle.wfsx.specs.Trees.{Tree, T, TU, answer}
 use Rattle.search.specs.Questions.{questionOf}
-use Rattle.desk.specs.Listed.{Listed, programIn, listingIn}
-use Rattle.desk.specs.Runs.{Call, load, put-in, take-out, left}
+use Rattle.lesson.specs.State.{State, programIn, listingIn}
+use Rattle.lesson.specs.declared.Change.the-variants.{PutIn, TakeOut}
+use Rattle.desk.specs.Runs.{Call, load, change, left}
 
 -- a search, and whether it says yes
 pub record Search : Type 0 where
@@ -26,7 +27,7 @@ pub record Case : Type 0 where
   pub answers : List Search
 
 -- the case as the definitions have it: the same calls, literals and questions, with what they give
-abbrev pub answered : Listed → Search → Search
+abbrev pub answered : State → Search → Search
 answered d s =
     record { literal = s .literal; default = s .default; tree = s .tree; yes = answer (programIn d) (s .tree) (questionOf (s .literal) (s .default)) }
 
@@ -183,7 +184,7 @@ case-10 =
 abbrev case-11-put-in : Case
 case-11-put-in =
     record {
-      calls = load file-5 ∷ put-in 0 ∷ [];
+      calls = load file-5 ∷ change (PutIn 0) ∷ [];
       listing = 99 ∷ 111 ∷ 110 ∷ 116 ∷ 114 ∷ 97 ∷ 100 ∷ 105 ∷ 99 ∷ 116 ∷ 105 ∷ 111 ∷ 110 ∷ 44 ∷ 50 ∷ 44 ∷ 51 ∷ 44 ∷ 49 ∷ 44 ∷ 97 ∷ 10 ∷ [];
       verdicts = [];
       answers = asks 0 false T true ∷ [];
@@ -193,7 +194,7 @@ case-11-put-in =
 abbrev case-11-taken-out : Case
 case-11-taken-out =
     record {
-      calls = load file-5 ∷ put-in 0 ∷ take-out 0 ∷ [];
+      calls = load file-5 ∷ change (PutIn 0) ∷ change (TakeOut 0) ∷ [];
       listing = 109 ∷ 111 ∷ 100 ∷ 101 ∷ 108 ∷ 44 ∷ 50 ∷ 44 ∷ 51 ∷ 44 ∷ 48 ∷ 10 ∷ 48 ∷ 44 ∷ 97 ∷ 44 ∷ 102 ∷ 97 ∷ 108 ∷ 115 ∷ 101 ∷ 44 ∷ 116 ∷ 114 ∷ 117 ∷ 101 ∷ 10 ∷ 49 ∷ 44 ∷ 98 ∷ 44 ∷ 116 ∷ 114 ∷ 117 ∷ 101 ∷ 44 ∷ 102 ∷ 97 ∷ 108 ∷ 115 ∷ 101 ∷ 10 ∷ [];
       verdicts = (0, is-false) ∷ (1, is-true) ∷ (2, is-true) ∷ (3, is-false) ∷ [];
       answers = asks 0 false T false ∷ asks 0 false TU false ∷ asks 0 true T true ∷ asks 0 true TU true ∷ asks 2 false T true ∷ asks 2 false TU true ∷ asks 2 true T false ∷ asks 2 true TU false ∷ [];

@@ -1,5 +1,4 @@
 -- What the contracts of `desk` cite, and what a list of calls leaves.
-pub mod Listed
 pub mod Calls
 pub mod Runs
 pub mod Cases

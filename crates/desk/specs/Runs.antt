@@ -1,114 +1,121 @@
--- A list of calls: what it leaves by its arguments alone (document 01, "What a list of calls leaves"), and what a run of it is.
+-- The calls of a desk, each as one record: what a list of them leaves by its arguments alone (document 01, "What a list of calls leaves"), and what a run
+-- of it is. Then what the three demands say of a reply.
 use mathlib.Core.Path.{_≡_}
 use mathlib.Core.Logic.{_↔_}
 use mathlib.Core.Bool.{Bool, true, false}
-use mathlib.Core.List.{List, [], _∷_}
-use Prim.Native.Nat.{ℕ, _*_, _≤_, _<_}
-use lib.ListN.{length}
-use Rattle.wfsx.specs.Sets.{Set, _∈_, _∉_, _⊆_, ∅, _∖_, add}
+use mathlib.Core.List.{List, _++_}
+use Prim.Native.Nat.{ℕ, _≤_, _<_}
+use lib.ListN.{length, drop}
+use Rattle.wfsx.specs.Sets.{Set, _∈_, _∉_, _⊆_, _∖_}
 use Rattle.wfsx.specs.Program.{Program}
 use Rattle.wfsx.specs.Model.{M, N, PartialStable, valueIn}
 use Rattle.wfsx.specs.Model as wfsx
 use Rattle.wfsx.specs.Trees.{Tree, T, TU}
-use Rattle.litset.specs.Words.{without}
 use Rattle.search.specs.Questions.{questionOf}
 use Rattle.reader.specs.File.{Outcome, accepted, readFile}
 use Rattle.reader.specs.File as reader
 use Rattle.reader.specs.Conditions.{Row, First, IsRefused}
 use Rattle.reader.specs.declared.Answer.the-variants as reading
-use Rattle.desk.specs.Listed.{listingIn, unloaded, loaded-with, Listed, itsNames, programIn, inBook, ContradictoryOver, Said, gives, refused, putInSays, takeOutSays}
-use Rattle.desk.specs.Calls.{Loads, factSays, PutsIn, TakesOut, verdictSays, GivesVerdict, askSays, Searches, modelSays, GivesModel, listSays, Lists}
-use Rattle.desk.specs.declared.Lesson.{Lesson}
+use Rattle.fixpoint.specs.Result.{ModelOf}
+use Rattle.lesson.specs.State.{unloaded, loaded-with, emptied, State, programIn, inBook, ContradictoryOver, listingIn, Said, gives, refused, ownAfter}
+use Rattle.lesson.specs.Calls.{changeSaid, Changes, verdictSaid, GivesVerdict, searchSaid, Searches, modelSaid, GivesModel, listingSaid, Lists}
+use Rattle.lesson.specs.Conditions.{changeRows, verdictRows, searchRows, modelRows, listingRows}
+use Rattle.lesson.specs.declared.Shelf.{Shelf}
+use Rattle.lesson.specs.declared.Lesson.{Lesson}
+use Rattle.lesson.specs.declared.Change.{Change}
+use Rattle.lesson.specs.declared.ChangeReply.{ChangeReply}
+use Rattle.lesson.specs.declared.VerdictAnswer.{VerdictAnswer}
+use Rattle.lesson.specs.declared.SearchAnswer.{SearchAnswer}
+use Rattle.lesson.specs.declared.ModelReply.{ModelReply}
+use Rattle.lesson.specs.declared.ListingAnswer.{ListingAnswer}
+use Rattle.calls.specs.Lists.{CallSpec, afterAll, RunOf}
+use Rattle.desk.specs.Calls.{Loads}
+use Rattle.desk.specs.declared.Desk.{Desk}
 use Rattle.desk.specs.declared.LoadReply.{LoadReply}
-use Rattle.desk.specs.declared.FactReply.{FactReply}
-use Rattle.desk.specs.declared.VerdictReply.{VerdictReply}
-use Rattle.desk.specs.declared.AskReply.{AskReply}
-use Rattle.desk.specs.declared.ModelReply.{ModelReply}
-use Rattle.desk.specs.declared.ListReply.{ListReply}
 
--- A call with its arguments. A load has the bytes of its file, a listing those of the lent buffer; a search has a literal number, whether `~` stands before it, and T or TU.
+-- A call with its arguments. A load has the bytes of its file, a listing those of the lent buffer; a change puts a literal in or takes it out; a search has a
+-- literal number, whether `~` stands before it, and T or TU.
 pub data Call : Type 0 where
   load : List ℕ → Call
-  put-in take-out verdict : ℕ → Call
-  ask : ℕ → Bool → Tree → Call
+  change : Change → Call
+  verdict : ℕ → Call
+  search-for : ℕ → Bool → Tree → Call
   model : Call
   listing : List ℕ → Call
 
--- ---- what a list leaves
+-- ---- each call as one record
 
 -- at the start there is no book and the set is empty
-abbrev pub nothing : Listed
-nothing = record { book = unloaded; facts = ∅ }
+abbrev pub nothing : State
+nothing = record { book = unloaded; own = emptied }
 
 -- a load makes the file's names and rules the book, and empties the set
-abbrev pub reads : Listed → Outcome → Listed
-reads d (accepted names rules) = record { book = loaded-with names rules; facts = ∅ }
+abbrev pub reads : State → Outcome → State
+reads d (accepted names rules) = record { book = loaded-with names rules; own = emptied }
 reads d (reader.refused number line) = d
 
-abbrev pub withSet : Listed → Set → Listed
-withSet d facts = record { book = d .book; facts = facts }
+-- a call that reads: it changes neither book nor set
+abbrev pub looking : (R : Type 0) {X : Type 0} → (Shelf → Lesson → R → Type 0) → (R → Said X) → (State → List Row) → CallSpec Desk State
+looking R Meets said rows =
+    record {
+      Reply = R;
+      Meets = λ k r. Meets (k .shelf) (k .lesson) r;
+      next = λ k r. k;
+      after = λ d. d;
+      TurnsDown = λ d number line. First number (rows d);
+      RefusedBy = λ r number line. said r ≡ refused number;
+      Unwritten = λ r. Unit;
+    }
 
--- a call that meets a condition for turning such calls down changes neither
-abbrev pub unlessRefused : {X : Type 0} → Said X → Listed → Listed → Listed
-unlessRefused (gives x) d e = d
-unlessRefused (refused number) d e = e
+-- a call that reads and is lent a buffer: beside its answer stand the buffer's bytes afterwards
+abbrev pub lending : List ℕ → (R : Type 0) {X : Type 0} → (Shelf → Lesson → R → List ℕ → Type 0) → (R → Said X) → (State → List Row) → CallSpec Desk State
+lending buffer R Meets said rows =
+    record {
+      Reply = R × List ℕ;
+      Meets = λ k r. Meets (k .shelf) (k .lesson) (r .0) (r .1);
+      next = λ k r. k;
+      after = λ d. d;
+      TurnsDown = λ d number line. First number (rows d);
+      RefusedBy = λ r number line. said (r .0) ≡ refused number;
+      Unwritten = λ r. r .1 ≡ buffer;
+    }
 
--- putting in a literal adds it to the set, taking it out removes it, and every other call changes neither
-unfoldable pub after : Listed → Call → Listed
-after d (load file) = reads d (readFile file)
-after d (put-in A) = unlessRefused (putInSays d A) (withSet d (add A (d .facts))) d
-after d (take-out A) = unlessRefused (takeOutSays d A) (withSet d (without A (d .facts))) d
-after d (verdict A) = d
-after d (ask A default k) = d
-after d model = d
-after d (listing buffer) = d
+abbrev pub specOf : Call → CallSpec Desk State
+specOf (load file) =
+    record {
+      Reply = LoadReply;
+      Meets = λ k r. Loads k file r;
+      next = λ k r. r .desk;
+      after = λ d. reads d (readFile file);
+      TurnsDown = λ d number line. IsRefused file number line;
+      RefusedBy = λ r number line. r .answer ≡ reading.Refused number line;
+      Unwritten = λ r. Unit;
+    }
+specOf (change c) =
+    record {
+      Reply = ChangeReply;
+      Meets = λ k r. Changes (k .shelf) (k .lesson) c r;
+      next = λ k r. record { shelf = k .shelf; lesson = r .lesson };
+      after = λ d. record { book = d .book; own = ownAfter d c };
+      TurnsDown = λ d number line. First number (changeRows d c);
+      RefusedBy = λ r number line. changeSaid (r .answer) ≡ refused number;
+      Unwritten = λ r. Unit;
+    }
+specOf (verdict A) = looking VerdictAnswer (λ s l r. GivesVerdict s l A r) verdictSaid (λ d. verdictRows d A)
+specOf (search-for A default k) = looking SearchAnswer (λ s l r. Searches s l A k (questionOf A default) r) searchSaid (λ d. searchRows d A)
+specOf model = looking ModelReply GivesModel (λ r. modelSaid (r .answer)) modelRows
+specOf (listing buffer) = lending buffer ListingAnswer (λ s l r after. Lists s l buffer r after) listingSaid (λ d. listingRows d buffer)
 
-abbrev pub afterAll : Listed → List Call → Listed
-afterAll d [] = d
-afterAll d (c ∷ cs) = afterAll (after d c) cs
+-- ---- lists
 
 -- the list's own book and set of facts
-abbrev pub left : List Call → Listed
-left cs = afterAll nothing cs
+abbrev pub left : List Call → State
+left cs = afterAll specOf nothing cs
 
--- ---- what a run is
+abbrev pub Run : Desk → List Call → Desk → Type 0
+Run k cs m = RunOf specOf k cs m
 
--- a listing leaves a buffer beside its reply
-abbrev pub ReplyTo : Call → Type 0
-ReplyTo (load file) = LoadReply
-ReplyTo (put-in A) = FactReply
-ReplyTo (take-out A) = FactReply
-ReplyTo (verdict A) = VerdictReply
-ReplyTo (ask A default k) = AskReply
-ReplyTo model = ModelReply
-ReplyTo (listing buffer) = ListReply × List ℕ
-
--- what the `ensures` of the call says of its reply
-abbrev pub Meets : Lesson → (c : Call) → ReplyTo c → Type 0
-Meets l (load file) r = Loads l file r
-Meets l (put-in A) r = PutsIn l A r
-Meets l (take-out A) r = TakesOut l A r
-Meets l (verdict A) r = GivesVerdict l A r
-Meets l (ask A default k) r = Searches l A k (questionOf A default) r
-Meets l model r = GivesModel l r
-Meets l (listing buffer) r = Lists l buffer (r .0) (r .1)
-
--- the lesson that the call returns
-abbrev pub lessonIn : (c : Call) → ReplyTo c → Lesson
-lessonIn (load file) r = r .lesson
-lessonIn (put-in A) r = r .lesson
-lessonIn (take-out A) r = r .lesson
-lessonIn (verdict A) r = r .lesson
-lessonIn (ask A default k) r = r .lesson
-lessonIn model r = r .lesson
-lessonIn (listing buffer) r = r .0 .lesson
-
--- Each call gets the lesson that the call before it returned.
-abbrev pub Run : Lesson → List Call → Lesson → Type 0
-Run l [] m = l ≡ m
-Run l (c ∷ cs) m = (r : ReplyTo c) × Meets l c r × Run (lessonIn c r) cs m
-
--- ---- the demands
+-- ---- what is due of a reply, over what the list before it leaves
 
 -- demand 3: when the search for a literal, or for `not` of it, is to say yes
 abbrev pub IsDue : Program → Tree → Bool → ℕ → Type 0
@@ -121,61 +128,23 @@ pub record Due (P : Program) (k : Tree) (default : Bool) (A : ℕ) (said : Said 
   pub yes-exactly : (said ≡ gives true) ↔ IsDue P k default A
   pub else-no : (IsDue P k default A → ⊥) → said ≡ gives false
 
--- demand 1: the conditions of document 01, "When a call is turned down by the state", in their order, read over what a list leaves
-
--- 20: no book is loaded
-abbrev pub NoBook : Listed → Type 0
-NoBook d = d .book ≡ unloaded
-
--- 21: the literal number isn't below twice the count of names
-abbrev pub NotBelow : Listed → ℕ → Type 0
-NotBelow d A = 2 * length (itsNames (d .book)) ≤ A
-
-abbrev pub stateRows : Listed → Call → List Row
-stateRows d (load file) = []
-stateRows d (put-in A) = (20, NoBook d) ∷ (21, NotBelow d A) ∷ (22, A ∈ d .facts) ∷ []
-stateRows d (take-out A) = (20, NoBook d) ∷ (21, NotBelow d A) ∷ (23, A ∉ d .facts) ∷ []
-stateRows d (verdict A) = (20, NoBook d) ∷ (21, NotBelow d A) ∷ (24, ContradictoryOver (inBook (d .book)) d) ∷ []
-stateRows d (ask A default k) = (20, NoBook d) ∷ (21, NotBelow d A) ∷ []
-stateRows d model = (20, NoBook d) ∷ []
-stateRows d (listing buffer) = (20, NoBook d) ∷ (25, length buffer < length (listingIn d)) ∷ []
-
--- the call meets the condition of this number, a load with the line of its file
-abbrev pub TurnsDown : Listed → Call → ℕ → ℕ → Type 0
-TurnsDown d (load file) number line = IsRefused file number line
-TurnsDown d (put-in A) number line = First number (stateRows d (put-in A))
-TurnsDown d (take-out A) number line = First number (stateRows d (take-out A))
-TurnsDown d (verdict A) number line = First number (stateRows d (verdict A))
-TurnsDown d (ask A default k) number line = First number (stateRows d (ask A default k))
-TurnsDown d model number line = First number (stateRows d model)
-TurnsDown d (listing buffer) number line = First number (stateRows d (listing buffer))
-
--- the reply is the refusal by this number, a load's with this line
-abbrev pub RefusedBy : (c : Call) → ReplyTo c → ℕ → ℕ → Type 0
-RefusedBy (load file) r number line = r .answer ≡ reading.Refused number line
-RefusedBy (put-in A) r number line = factSays (r .answer) ≡ refused number
-RefusedBy (take-out A) r number line = factSays (r .answer) ≡ refused number
-RefusedBy (verdict A) r number line = verdictSays (r .answer) ≡ refused number
-RefusedBy (ask A default k) r number line = askSays (r .answer) ≡ refused number
-RefusedBy model r number line = modelSays (r .answer) ≡ refused number
-RefusedBy (listing buffer) r number line = listSays (r .0 .answer) ≡ refused number
-
--- the earlier book and facts remain, and no byte of a lent buffer changes
-abbrev pub AsItWas : Lesson → (c : Call) → ReplyTo c → Type 0
-AsItWas l (load file) r = r .lesson ≡ l
-AsItWas l (put-in A) r = r .lesson ≡ l
-AsItWas l (take-out A) r = r .lesson ≡ l
-AsItWas l (verdict A) r = r .lesson ≡ l
-AsItWas l (ask A default k) r = r .lesson ≡ l
-AsItWas l model r = r .lesson ≡ l
-AsItWas l (listing buffer) r = (r .0 .lesson ≡ l) × (r .1 ≡ buffer)
-
 -- demand 2: the verdict of a literal of the book is its value in the least partial stable model
 pub record ModelVerdict (base : Set) (P : Program) (A : ℕ) (v : wfsx.Verdict) : Type 0 where
   pub stable : PartialStable P base (M P) (base ∖ N P)
   pub least : (S F : Set) → PartialStable P base S F → (M P ⊆ S) × (base ∖ N P ⊆ F)
   pub value : v ≡ valueIn (M P) (base ∖ N P) A
 
-pub record VerdictDue (d : Listed) (A : ℕ) (said : Said wfsx.Verdict) : Type 0 where
+pub record VerdictDue (d : State) (A : ℕ) (said : Said wfsx.Verdict) : Type 0 where
   pub refused-24 : (said ≡ refused 24) ↔ ContradictoryOver (inBook (d .book)) d
   pub given : (ContradictoryOver (inBook (d .book)) d → ⊥) → (v : wfsx.Verdict) × (said ≡ gives v) × ModelVerdict (inBook (d .book)) (programIn d) A v
+
+-- the model call answers M, N and whether the lesson is contradictory
+pub record ModelDue (d : State) (r : ModelReply) : Type 0 where
+  pub contradictory : (modelSaid (r .answer) ≡ gives true) ↔ ContradictoryOver (inBook (d .book)) d
+  pub consistent : (modelSaid (r .answer) ≡ gives false) ↔ (ContradictoryOver (inBook (d .book)) d → ⊥)
+  pub sets : ModelOf (programIn d) (r .model)
+
+-- the listing call answers the listing's length and writes the listing, byte for byte; the bytes after it stay
+pub record ListingDue (d : State) (buffer : List ℕ) (said : Said ℕ) (after : List ℕ) : Type 0 where
+  pub fitting : length (listingIn d) ≤ length buffer → (said ≡ gives (length (listingIn d))) × (after ≡ listingIn d ++ drop (length (listingIn d)) buffer)
+  pub short : length buffer < length (listingIn d) → (said ≡ refused 25) × (after ≡ buffer)

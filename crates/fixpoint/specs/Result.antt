@@ -6,21 +6,15 @@ use Rattle.wfsx.specs.Sets.{Set}
 use Rattle.wfsx.specs.Program.{Program}
 use Rattle.wfsx.specs.Model.{M, N, is-true, is-false, is-undefined}
 use Rattle.wfsx.specs.Model as wfsx
-use Rattle.litset.specs.Words.{setOf, ClashOf}
+use Rattle.litset.specs.Words.{setOf}
 use Rattle.fixpoint.specs.declared.Verdict.{Verdict}
 use Rattle.fixpoint.specs.declared.Verdict.the-variants.{True, False, Undefined}
-use Rattle.fixpoint.specs.declared.Halves.{Halves}
 use Rattle.fixpoint.specs.declared.Model.{Model}
 
-pub record HalvesOf (P : Program) (h : Halves) : Type 0 where
-  pub truths : setOf (h .truths .words) ≡ M P
-  pub nonfalse : setOf (h .nonfalse .words) ≡ N P
-
--- the model of P: M, N, and the lowest-numbered name with both literals in M
+-- the model of P: M and N
 pub record ModelOf (P : Program) (m : Model) : Type 0 where
   pub truths : setOf (m .truths .words) ≡ M P
   pub nonfalse : setOf (m .nonfalse .words) ≡ N P
-  pub clash : ClashOf (M P) (m .clash)
 
 -- the words of a verdict
 abbrev pub verdictIs : Verdict → wfsx.Verdict

@@ -1,5 +1,5 @@
-// The model of a book and the facts put in: M, N, whether they are contradictory, and the verdict of a literal. A set grows by passes over the
-// rules until a pass adds nothing. A pass takes the literals whose rules are shut: none for Γ, the complements of S for Γs(S).
+// The model of a book and the facts put in: M, N, and the verdict of a literal. A set grows by passes over the rules until a pass adds nothing. A pass
+// takes the literals whose rules are shut: none for Γ, the complements of S for Γs(S).
 ghost use mathlib.Core.Path.{_≡_};
 ghost use Rattle.wfsx.specs.Sets.{_⊆_};
 ghost use Rattle.wfsx.specs.Program.{withoutHeads};
@@ -7,10 +7,9 @@ ghost use Rattle.wfsx.specs.Model.{holds, Γ, Γs};
 ghost use Rattle.litset.specs.Words.{setOf};
 ghost use Rattle.book.specs.Book.{entryIs, rulesIn, program, programOf};
 ghost use Rattle.fixpoint.specs.Pass.{pass};
-ghost use Rattle.fixpoint.specs.Result.{HalvesOf, ModelOf, verdictIs, verdictIn};
+ghost use Rattle.fixpoint.specs.Result.{ModelOf, verdictIs, verdictIn};
 use book::Book;
 use book::Entry;
-use litset::Clash;
 use litset::LitSet;
 
 pub enum Verdict {
@@ -19,17 +18,11 @@ pub enum Verdict {
     Undefined,
 }
 
-// M, N, and the name that makes the program contradictory.
+// M and N. The name that makes a program contradictory is read from M.
+#[repr(C)]
 pub struct Model {
     pub truths: LitSet,
     pub nonfalse: LitSet,
-    pub clash: Clash,
-}
-
-// M and N.
-struct Halves {
-    truths: LitSet,
-    nonfalse: LitSet,
 }
 
 // Whether an entry holds over d and s.
@@ -155,8 +148,8 @@ fn settle<'a>(
     entries: &'a [u16],
     count: usize,
     facts: LitSet,
-) -> Halves
-    ensures { λ r. ⌜ HalvesOf (program (rulesIn (now (heads .entry)) (now (starts .entry)) (now (entries .entry)) count)
+) -> Model
+    ensures { λ r. ⌜ ModelOf (program (rulesIn (now (heads .entry)) (now (starts .entry)) (now (entries .entry)) count)
         (setOf (facts .words))) r ⌝ }
 {
     let mut x = litset::empty();
@@ -164,7 +157,7 @@ fn settle<'a>(
         let n = gamma_seminormal(heads, starts, entries, count, facts, x);
         let m = gamma_above(heads, starts, entries, count, facts, n, x);
         if litset::equal(x, m) {
-            return Halves {
+            return Model {
                 truths: m,
                 nonfalse: n,
             };
@@ -204,18 +197,11 @@ pub fn model_of(book: Book, facts: LitSet) -> Model
     ensures { λ r. ⌜ ModelOf (programOf book (setOf (facts .words))) r ⌝ }
 {
     let count = book::rule_count(book);
-    let h = settle(&book.heads, &book.starts, &book.entries, count, facts);
-    let truths = h.truths;
-    let nonfalse = h.nonfalse;
-    let clash = litset::lowest_both(truths);
-    Model {
-        truths,
-        nonfalse,
-        clash,
-    }
+    let m = settle(&book.heads, &book.starts, &book.entries, count, facts);
+    m
 }
 
-// The verdict of a literal in a model that has no clash.
+// The verdict of a literal by the sets of a model.
 pub fn verdict_of(m: Model, l: usize) -> Verdict
     ensures { λ r. ⌜ verdictIs r ≡ verdictIn (setOf (m .truths .words)) (setOf (m .nonfalse .words)) l ⌝ }
 {

@@ -7,8 +7,7 @@ use Prim.Native.Nat.{ℕ, _≤_, _<_}
 use native.Mathlib.Nat.{zero-add}
 use native.Mathlib.Omega.{arith}
 use lib.Dec.{leb}
-use lib.ListN.{length, take, drop}
-use lib.Seq.{take-append-seam}
+use lib.ListN.{length, drop}
 use borrow.Author.Tests.{le-leb, lt-leb}
 use Rattle.lister.specs.declared.Written.{Written}
 use Rattle.lister.specs.declared.Written.the-variants.{Length, Short}
@@ -55,11 +54,6 @@ module _ {bytes before after : List ℕ} {r : Written} (w : Writes bytes before 
       go false q b = (refl, b)
 
 -- in a buffer that is long enough
-module _ {bytes before after : List ℕ} {r : Written} (w : Writes bytes before r after) (fits : length bytes ≤ length before) where
-  pub length-answered : r ≡ Length (length bytes)
-  unfolding writtenOf
-  length-answered = w .answer ∙ rw (le-leb (length bytes) (length before) fits) refl
-
-  pub bytes-first : take (length bytes) after ≡ bytes
-  unfolding bufferOf
-  bytes-first = ap (take (length bytes)) (w .buffer ∙ rw (le-leb (length bytes) (length before) fits) refl) ∙ take-append-seam bytes (drop (length bytes) before)
+pub length-answered : {bytes before after : List ℕ} {r : Written} → Writes bytes before r after → length bytes ≤ length before → r ≡ Length (length bytes)
+unfolding writtenOf
+length-answered {bytes} {before} w fits = w .answer ∙ rw (le-leb (length bytes) (length before) fits) refl

@@ -3,4 +3,4 @@ pub mod Stored
 pub mod Digits
 pub mod Lines
 pub mod Calls
-pub mod Lesson
+pub mod Standing

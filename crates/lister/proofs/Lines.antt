@@ -7,7 +7,7 @@ use native.Mathlib.Omega.{arith}
 use lib.ListN.{length, getD, length-append}
 use Rattle.wfsx.specs.Sets.{members}
 use Rattle.wfsx.proofs.Members.{length-most}
-use Rattle.litset.specs.Words.{capacity, setOf}
+use Rattle.litset.specs.Words.{capacity, setOf, clashIn}
 use Rattle.litset.specs.declared.LitSet.{LitSet}
 use Rattle.wfsx.specs.Model.{Verdict, is-true, is-false, is-undefined}
 use Rattle.book.specs.Book.{rows, clamp, nameAt, namesIn, rulesOf}
@@ -20,7 +20,7 @@ use Rattle.litset.specs.declared.Clash.{Clash}
 use Rattle.litset.specs.declared.Clash.the-variants.{None, Name}
 use Rattle.scan.specs.Text.{comma, newline, maxLength}
 use Rattle.book.proofs.Names.{names-count, name-most, name-short, rules-counted}
-use Rattle.lister.specs.Listing.{modelWord, contradictionWord, refusedWord, verdictWord, digits, field, line, nameLine, nameLines, listingBy, verdictsBy, listingIn, refusalOf}
+use Rattle.lister.specs.Listing.{modelWord, contradictionWord, refusedWord, verdictWord, digits, field, line, nameLine, nameLines, listingBy, listingBySets, verdictsBy, listingIn, refusalOf}
 use Rattle.lister.specs.Steps.{Room, Put, countsTo, verdictsEnd}
 use Rattle.lister.proofs.Stored.{room-first, Left, left-step, left-none}
 use Rattle.lister.proofs.Digits.{digits-most}
@@ -67,16 +67,16 @@ module _ (names : List (List ℕ)) (rules facts : ℕ) (v : ℕ → Verdict) whe
 -- the same by the counts that the code has
 module _ (b : Book) (facts : LitSet) (m : Model) {names rules putIn : ℕ} (ns : names ≡ clamp maxNames (b .names)) (rs : rules ≡ clamp maxRules (b .rules))
     (fs : putIn ≡ length (members capacity (setOf (facts .words)))) where
-  by-counts : (c : Clash) → m .clash ≡ c → listingIn b facts m ≡ listingBy (namesIn (b .text) (b .lengths) names) rules putIn (verdictsBy m) c
-  unfolding listingIn
+  by-counts : (c : Clash) → clashIn (setOf (m .truths .words)) ≡ c → listingIn b facts m ≡ listingBy (namesIn (b .text) (b .lengths) names) rules putIn (verdictsBy m) c
+  unfolding listingBySets
   by-counts c e = rw (ns, rs, fs, e, rules-counted b)
 
-  pub clear-parts : m .clash ≡ None
+  pub clear-parts : clashIn (setOf (m .truths .words)) ≡ None
       → listingIn b facts m ≡ field modelWord comma ++ (countsTo newline names rules putIn ++ nameLines (verdictsBy m) 0 (namesIn (b .text) (b .lengths) names))
   clear-parts e =
       by-counts None e ∙ clear-is (namesIn (b .text) (b .lengths) names) rules putIn (verdictsBy m) ∙ rw (names-count (b .text) (b .lengths) names)
 
-  pub clash-parts : (k : ℕ) → m .clash ≡ Name k
+  pub clash-parts : (k : ℕ) → clashIn (setOf (m .truths .words)) ≡ Name k
       → listingIn b facts m ≡ field contradictionWord comma ++ (countsTo comma names rules putIn ++ field (getD (namesIn (b .text) (b .lengths) names) k []) newline)
   clash-parts k e =
       by-counts (Name k) e ∙ clash-is (namesIn (b .text) (b .lengths) names) rules putIn (verdictsBy m) k ∙ rw (names-count (b .text) (b .lengths) names)
@@ -171,11 +171,11 @@ module _ (text lengths : List ℕ) (n rules facts : ℕ) (v : ℕ → Verdict) (
       }
 
 pub listing-room : (b : Book) (facts : LitSet) (m : Model) → Room (listingIn b facts m) 0
-unfolding listingIn
+unfolding listingBySets
 listing-room b facts m =
     room-by (b .text) (b .lengths) (clamp maxNames (b .names)) (length (rulesOf b)) (length (members capacity (setOf (facts .words)))) (verdictsBy m)
     (clamp-most maxNames (b .names)) (omega (arith, rules-counted b, clamp-most maxRules (b .rules)))
-    (omega (arith, length-most (setOf (facts .words)) 0 capacity)) (m .clash)
+    (omega (arith, length-most (setOf (facts .words)) 0 capacity)) (clashIn (setOf (m .truths .words)))
 
 pub refusal-room : (number at : ℕ) → number < 10 ^ 20 → at < 10 ^ 20 → Room (refusalOf number at) 0
 refusal-room number at h l =

@@ -1,5 +1,5 @@
 -- The bytes of the listing and of a refusal, whole (document 01, "The listing, whole").
-use mathlib.Core.Bool.{cond, _&&_}
+use mathlib.Core.Bool.{cond}
 use mathlib.Core.List.{List, [], _∷_, _++_}
 use Prim.Native.Nat.{ℕ, zero, suc, _+_, _*_, _/_, _%_}
 use lib.Dec.{ltb}
@@ -7,7 +7,7 @@ use lib.ListN.{length, getD}
 use Rattle.wfsx.specs.Sets.{Set, members}
 use Rattle.wfsx.specs.Program.{Rule, withFacts}
 use Rattle.wfsx.specs.Model.{M, Verdict, is-true, is-false, is-undefined, verdict}
-use Rattle.litset.specs.Words.{capacity, setOf}
+use Rattle.litset.specs.Words.{capacity, setOf, clashIn}
 use Rattle.litset.specs.declared.LitSet.{LitSet}
 use Rattle.book.specs.declared.Book.{Book}
 use Rattle.book.specs.Book.{namesOf, rulesOf}
@@ -90,17 +90,6 @@ unfoldable pub listingBy : List (List ℕ) → ℕ → ℕ → (ℕ → Verdict)
 listingBy names rules facts v None = line modelWord (counts (length names) rules facts) ++ nameLines v 0 names
 listingBy names rules facts v (Name n) = line contradictionWord (counts (length names) rules facts ++ (getD names n [] ∷ []))
 
--- the lowest-numbered of the n names from k on that has both literals in S
-unfoldable pub clashFrom : Set → ℕ → ℕ → Clash
-clashFrom S k zero = None
-clashFrom S k (suc n) =
-    let later = clashFrom S (suc k) n in
-    cond (S (2 * k) && S (2 * k + 1)) (Name k) later
-
--- the lowest-numbered name with both literals in S, among all whose literals a set has room for
-abbrev pub clashIn : Set → Clash
-clashIn S = clashFrom S 0 (capacity / 2)
-
 -- the listing of a lesson: a book's names and rules, and the facts put in
 unfoldable pub listingOf : List (List ℕ) → List Rule → Set → List ℕ
 listingOf names rules facts =
@@ -108,13 +97,17 @@ listingOf names rules facts =
     let P = withFacts rules putIn in
     listingBy names (length rules) (length putIn) (verdict P) (clashIn (M P))
 
+-- the same by two sets in the place of M and N (`proofs/Standing.antt`: with M and N it is `listingOf`)
+unfoldable pub listingBySets : List (List ℕ) → List Rule → Set → Set → Set → List ℕ
+listingBySets names rules facts T U = listingBy names (length rules) (length (members capacity facts)) (verdictIn T U) (clashIn T)
+
 -- the verdicts that the sets of a model give
 abbrev pub verdictsBy : Model → ℕ → Verdict
 verdictsBy m A = verdictIn (setOf (m .truths .words)) (setOf (m .nonfalse .words)) A
 
--- the listing by what is held in memory, whatever its bits (`proofs/Lesson.antt`: with the model of the book and the facts it is `listingOf`)
-unfoldable pub listingIn : Book → LitSet → Model → List ℕ
-listingIn b facts m = listingBy (namesOf b) (length (rulesOf b)) (length (members capacity (setOf (facts .words)))) (verdictsBy m) (m .clash)
+-- the listing by what is held in memory, whatever its bits
+abbrev pub listingIn : Book → LitSet → Model → List ℕ
+listingIn b facts m = listingBySets (namesOf b) (rulesOf b) (setOf (facts .words)) (setOf (m .truths .words)) (setOf (m .nonfalse .words))
 
 -- ---- a refusal
 

@@ -164,7 +164,7 @@ fn put_listing(t: &mut [u8], book: Book, facts: LitSet, model: Model) -> usize
     let names = book::name_count(book);
     let rules = book::rule_count(book);
     let put_in = litset::count(facts);
-    let clash = model.clash;
+    let clash = litset::lowest_both(model.truths);
     match clash {
         Clash::None => {
             let p = put_word(t, 0, b"model", b',');

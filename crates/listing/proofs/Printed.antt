@@ -1,50 +1,63 @@
--- What a file was read to is what is printed: the book of an accepted file has the file's names and rules, and no fact is put in.
-use mathlib.Core.Path.{_≡_, refl, sym, ap, _∙_, ap₂}
-use mathlib.Core.List.{List}
+-- What a file was read to is what is printed: the program is a run of a load, and a listing after it.
+use mathlib.Core.Path.{_≡_, refl, sym, ap, _∙_}
+use mathlib.Core.List.{List, [], _∷_, _++_}
+use mathlib.Core.Bool.{true≢false}
 use Prim.Native.Nat.{ℕ, _≤_}
 use native.Mathlib.Omega.{arith}
-use lib.ListN.{length, take, length-take}
-use Rattle.wfsx.specs.Sets.{∅}
-use Rattle.litset.specs.Words.{setOf}
-use Rattle.litset.specs.declared.LitSet.{LitSet}
-use Rattle.book.specs.Book.{namesOf, rulesOf, programOf}
-use Rattle.reader.specs.File.{readFile}
-use Rattle.reader.specs.Loading.{loadedOf}
+use lib.ListN.{length, take, drop, length-take}
+use lib.Seq.{take-append-seam}
+use Rattle.wfsx.specs.Program.{Rule}
+use Rattle.reader.specs.File.{Outcome, accepted, refused, readFile}
 use Rattle.reader.specs.declared.Answer.the-variants.{Accepted, Refused}
-use Rattle.reader.specs.declared.Loaded.{Loaded}
-use Rattle.fixpoint.specs.Result.{ModelOf}
-use Rattle.fixpoint.specs.declared.Model.{Model}
-use Rattle.lister.specs.Listing.{listingOf, listingIn, refusalOf}
-use Rattle.lister.proofs.Lesson.{lesson-listing}
+use Rattle.lister.specs.Listing.{refusalOf}
 use Rattle.lister.specs.Buffer.{Writes}
 use Rattle.lister.specs.declared.Written.{Written}
-use Rattle.lister.proofs.Calls.{length-answered, bytes-first}
+use Rattle.lister.proofs.Calls.{was-written, length-answered}
+use Rattle.lesson.specs.State.{BookState, unloaded, State, noneLoaded, listingIn, Said, gives}
+use Rattle.lesson.specs.Calls.{Lists, listingSaid}
+use Rattle.lesson.specs.Conditions.{NoBook}
+use Rattle.lesson.specs.declared.ListingAnswer.{ListingAnswer}
+use Rattle.lesson.specs.declared.ListingAnswer.the-variants as listing
+use Rattle.lesson.proofs.Order.{given-refused}
+use Rattle.lesson.proofs.Standing.{listing-begun}
+use Rattle.desk.specs.Calls.{Fresh, Loads}
+use Rattle.desk.specs.Runs.{load, nothing, reads, left, Run}
+use Rattle.desk.specs.declared.Desk.{Desk}
+use Rattle.desk.specs.declared.LoadReply.{LoadReply}
+use Rattle.desk.proofs.LoadLaws.{load-was-accepted, load-was-refused}
+use Rattle.desk.proofs.Answers.{listing-due, listing-most}
 use Rattle.io.specs.Counts.{Counts}
-use Rattle.reader.proofs.Outcomes.{names-loaded, rules-loaded, was-accepted, was-refused}
-use Rattle.wfsx.specs.Program.{Rule}
-use Rattle.book.specs.declared.Book.{Book}
-use Rattle.listing.specs.Printed.{printed, countIn}
+use Rattle.listing.specs.Printed.{printed, listedIn, writtenIn}
 
--- ---- by the answer that the reader gave
-
-module _ (file : List ℕ) (l : Loaded) (read : l ≡ loadedOf (readFile file)) where
-  pub accepted-printed : l .answer ≡ Accepted → (none : LitSet) (m : Model) → setOf (none .words) ≡ ∅ → ModelOf (programOf (l .book) (setOf (none .words))) m
-      → listingIn (l .book) none m ≡ printed (readFile file)
-  unfolding printed
-  accepted-printed told none m empty is =
-      let was = was-accepted l (readFile file) read told in
-      lesson-listing (l .book) none m is ∙ ap (listingOf (namesOf (l .book)) (rulesOf (l .book))) empty ∙ ap (λ (b : Book). listingOf (namesOf b) (rulesOf b) ∅) (was .book-is)
-      ∙ ap₂ (λ (names : List (List ℕ)) (rules : List Rule). listingOf names rules ∅) (names-loaded file _ _ (was .outcome)) (rules-loaded file _ _ (was .outcome)) ∙ ap printed (sym (was .outcome))
-
-  pub refused-printed : (number at : ℕ) → l .answer ≡ Refused number at → refusalOf number at ≡ printed (readFile file)
-  unfolding printed
-  refused-printed number at told = rw (was-refused l (readFile file) read number at told) refl
-
--- ---- the bytes that a call has written into a buffer that they fit
-
-pub written : {bytes before after : List ℕ} {r : Written} {n : ℕ} → Writes bytes before r after → length bytes ≤ length before → n ≡ countIn r
-    → Counts n after × (take n after ≡ bytes)
-written {bytes} {before} {after} {r} {n} w fits e =
-    let size : n ≡ length bytes = e ∙ ap countIn (length-answered w fits) in
-    let first : take n after ≡ bytes = rw size (bytes-first w fits) in
+-- the bytes at the start of a buffer
+first-bytes : (bytes rest after : List ℕ) (n : ℕ) → n ≡ length bytes → after ≡ bytes ++ rest → Counts n after × (take n after ≡ bytes)
+first-bytes bytes rest after n size e =
+    let first : take n after ≡ bytes = rw (size, e) (take-append-seam bytes rest) in
     ((omega (arith, ap length first, length-take n after), size ∙ sym (ap length first)), first)
+
+length-in : (a : ListingAnswer) (n : ℕ) → listingSaid a ≡ gives n → listedIn a ≡ n
+length-in (listing.Length m) n e = let same : m ≡ n = cc in same
+length-in (listing.Refused m) n e = absurd (given-refused n m (sym e))
+
+module _ (file : List ℕ) (start : Desk) (f : Fresh start) (q : LoadReply) (h : Loads start file q) {before after : List ℕ} (room : 65536 ≤ length before) (n : ℕ) where
+  pub accepted-printed : q .answer ≡ Accepted → (a : ListingAnswer) → Lists (q .desk .shelf) (q .desk .lesson) before a after → n ≡ listedIn a
+      → Counts n after × (take n after ≡ printed (readFile file))
+  unfolding printed
+  accepted-printed told a lists count =
+      let was = load-was-accepted start file q (readFile file) h told in
+      let cs = load file ∷ [] in
+      let here : left cs ≡ reads nothing (accepted (was .0) (was .1)) = ap (reads nothing) (was .2) in
+      let bytes : listingIn (left cs) ≡ printed (readFile file) = ap listingIn here ∙ listing-begun (was .0) (was .1) ∙ ap printed (sym (was .2)) in
+      let some : NoBook (left cs) → ⊥ = λ none. true≢false (sym (ap noneLoaded (sym (ap (λ (d : State). d .book) here) ∙ none))) in
+      let run : Run start cs (q .desk) = (q, h, refl) in
+      let fits = listing-most cs start (q .desk) f run some in
+      let due = listing-due cs start (q .desk) f run some before a after lists .fitting (omega arith) in
+      rw bytes at (first-bytes (listingIn (left cs)) _ after n (count ∙ length-in a _ (due .0)) (due .1))
+
+  pub refused-printed : (number at : ℕ) → q .answer ≡ Refused number at → (w : Written) → Writes (refusalOf number at) before w after → length (refusalOf number at) ≤ 65536
+      → n ≡ writtenIn w → Counts n after × (take n after ≡ printed (readFile file))
+  unfolding printed
+  refused-printed number at told w writes small count =
+      let answered = length-answered writes (omega arith) in
+      let bytes : refusalOf number at ≡ printed (readFile file) = ap printed (sym (load-was-refused start file q (readFile file) h number at told)) in
+      rw bytes at (first-bytes (refusalOf number at) _ after n (count ∙ ap writtenIn answered) (was-written writes _ answered .2))

@@ -1,16 +1,26 @@
-// Reads a marking file on standard input and prints its listing, with no fact put in, or `refused,NUMBER,LINE`.
+// Reads a marking file on standard input and prints its listing, with no fact put in, or `refused,NUMBER,LINE`: a load and a listing on a fresh desk.
 ghost use mathlib.Core.Path.{_≡_};
 ghost use Prim.Native.Nat.{_≤_};
 ghost use lib.ListN.{length, take};
 ghost use Rattle.reader.specs.File.{readFile};
 ghost use Rattle.io.specs.Counts.{Counts};
-ghost use Rattle.listing.specs.Printed.{printed, countIn};
+ghost use Rattle.listing.specs.Printed.{printed, listedIn, writtenIn};
+use lesson::ListingAnswer;
 use lister::Written;
 use reader::Answer;
 
 // How many bytes were written.
-fn count_of(w: Written) -> usize
-    ensures { λ r. ⌜ r ≡ countIn w ⌝ }
+fn listed_in(a: ListingAnswer) -> usize
+    ensures { λ r. ⌜ r ≡ listedIn a ⌝ }
+{
+    match a {
+        ListingAnswer::Length(n) => n,
+        ListingAnswer::Refused(_) => 0,
+    }
+}
+
+fn written_in(w: Written) -> usize
+    ensures { λ r. ⌜ r ≡ writtenIn w ⌝ }
 {
     match w {
         Written::Length(n) => n,
@@ -24,17 +34,15 @@ fn listed(file: &[u8], out: &mut [u8]) -> usize
     ensures { λ r. ⌜ Counts r (now (out .exit)) ⌝ }
     ensures { λ r. ⌜ take r (now (out .exit)) ≡ printed (readFile (now (file .entry))) ⌝ }
 {
-    let loaded = reader::read(file);
-    let book = loaded.book;
+    let loaded = desk::load(desk::fresh(), file);
     let answer = loaded.answer;
     match answer {
         Answer::Accepted => {
-            let none = litset::empty();
-            let model = fixpoint::model_of(book, none);
-            return count_of(lister::write(book, none, model, out));
+            let d = loaded.desk;
+            return listed_in(lesson::listing(d.shelf, d.lesson, out));
         }
         Answer::Refused { number, line } => {
-            return count_of(lister::write_refusal(number, line, out));
+            return written_in(lister::write_refusal(number, line, out));
         }
     }
 }

@@ -2,6 +2,7 @@
 pub mod Bit
 pub mod Words
 pub mod Names
+pub mod Clashes
 pub mod Ones
 pub mod Room
 pub mod Made

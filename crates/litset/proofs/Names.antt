@@ -18,10 +18,8 @@ use Rattle.wfsx.specs.Sets.{Set}
 use Rattle.wfsx.specs.Program.{compl, complements}
 use Rattle.wfsx.specs.Model.{Both}
 use Rattle.wfsx.proofs.Program.{compl-plain, compl-negated}
-use Rattle.litset.specs.Words.{bit, setOf, LowestBoth, ClashOf}
+use Rattle.litset.specs.Words.{bit, setOf, LowestBoth}
 use Rattle.litset.specs.Steps.{plain, exchange, pairs}
-use Rattle.litset.specs.declared.Clash.{Clash}
-use Rattle.litset.specs.declared.Clash.the-variants.{None, Name}
 use Rattle.litset.proofs.Bit.{or-bit, and-bit, bit-zero, bit-half, same-bits}
 
 -- ---- the bits of the names
@@ -215,18 +213,3 @@ module _ (ws : List ℕ) where
                 let j = 2 * k - 64 * i in
                 let below : j < t = omega (arith, place) in
                 clash (both-at k i j (omega arith) (omega (arith, low)) b) (below-trailing 64 (pairs (getD ws i 0)) j below)
-
--- a set has one clash
-pub lowest-one : (S : Set) (k n : ℕ) → LowestBoth S k → LowestBoth S n → k ≡ n
-lowest-one S k n a b = go (decLt k n) (decLt n k)
-  where
-    go : Dec (k < n) → Dec (n < k) → k ≡ n
-    go (yes h) q = absurd (b .1 k h (a .0))
-    go (no h) (yes l) = absurd (a .1 n l (b .0))
-    go (no h) (no l) = omega arith
-
-pub clash-settles : (S : Set) (c d : Clash) → ClashOf S c → ClashOf S d → c ≡ d
-clash-settles S None None a b = refl
-clash-settles S None (Name n) a b = absurd (a n (b .0))
-clash-settles S (Name k) None a b = absurd (b k (a .0))
-clash-settles S (Name k) (Name n) a b = ap Name (lowest-one S k n a b)

@@ -1,7 +1,7 @@
 -- A list of words of 64 bits, of any length, as a set of literals.
 use mathlib.Core.Bool.{Bool, not, cond, _&&_}
 use mathlib.Core.List.{List}
-use Prim.Native.Nat.{ℕ, _*_, _/_, _%_, _^_, _<_}
+use Prim.Native.Nat.{ℕ, zero, suc, _+_, _*_, _/_, _%_, _^_, _<_}
 use lib.Dec.{eqb, ltb}
 use lib.ListN.{getD}
 use Rattle.wfsx.specs.Sets.{Set, add}
@@ -44,3 +44,14 @@ LowestBoth S n = Both S n × ((k : ℕ) → k < n → Both S k → ⊥)
 abbrev pub ClashOf : Set → Clash → Type 0
 ClashOf S None = (n : ℕ) → Both S n → ⊥
 ClashOf S (Name n) = LowestBoth S n
+
+-- the lowest-numbered of the n names from k on that has both literals in S
+unfoldable pub clashFrom : Set → ℕ → ℕ → Clash
+clashFrom S k zero = None
+clashFrom S k (suc n) =
+    let later = clashFrom S (suc k) n in
+    cond (S (2 * k) && S (2 * k + 1)) (Name k) later
+
+-- the lowest-numbered name with both literals in S, among all whose literals a set has room for
+abbrev pub clashIn : Set → Clash
+clashIn S = clashFrom S 0 (capacity / 2)

@@ -5,7 +5,7 @@ ghost use mathlib.Core.Logic.{_↔_};
 ghost use lib.ListN.{length};
 ghost use Rattle.wfsx.specs.Sets.{∅, _∪_, _∖_, members};
 ghost use Rattle.wfsx.specs.Program.{compl, complements};
-ghost use Rattle.litset.specs.Words.{capacity, setOf, with, without, ClashOf};
+ghost use Rattle.litset.specs.Words.{capacity, setOf, with, without, clashIn};
 ghost use Rattle.litset.specs.Steps.{exchange, pairs};
 
 // How many words a set has. `nWords` in specs/Words.antt is the same number.
@@ -134,7 +134,7 @@ fn pairs_in(w: u64) -> u64
 }
 
 pub fn lowest_both(s: LitSet) -> Clash
-    ensures { λ r. ⌜ ClashOf (setOf (s .words)) r ⌝ }
+    ensures { λ r. ⌜ r ≡ clashIn (setOf (s .words)) ⌝ }
 {
     let mut i: usize = 0;
     while i < WORDS {

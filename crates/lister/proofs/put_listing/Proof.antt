@@ -1,6 +1,6 @@
 -- `put_listing`: the word, the counts and the names' lines, or the word, the counts and a name, one behind the other.
 use borrow.Author.Needs.{needs}
-use mathlib.Core.Path.{_≡_}
+use mathlib.Core.Path.{_≡_, sym, _∙_}
 use mathlib.Core.List.{List, [], _++_}
 use Prim.Native.Nat.{ℕ}
 use lib.ListN.{getD}
@@ -16,9 +16,15 @@ use native.Mathlib.Omega.{arith}
 use Rattle.lister.proofs.put_listing.Statement.{statement}
 use Rattle.lister.proofs.put_listing.Tie as tie
 
--- the places: the counts, and in each arm the word, the counts written and the rest
+-- the places: the counts, in each arm the clash that it is told, the word, the counts written and the rest
 abbrev at-start : tie.After-count → tie.Start
 at-start c = c .before .before .before .before
+
+abbrev told-counts : tie.After-enum-told → tie.After-count
+told-counts c = c .before .before .before
+
+abbrev clash-counts : tie.After-clash → tie.After-count
+clash-counts c = c .before .before .before
 
 abbrev at-clear : tie.After-put-word → tie.After-enum-told
 at-clear c = c .before .before .before
@@ -54,25 +60,27 @@ whole-room c = listing-room (at-start c .args .t2) (at-start c .args .facts) (at
 abbrev lines : tie.After-count → List ℕ
 lines c = nameLines (verdictsBy (at-start c .args .model)) 0 (names c)
 
-clear : (c : tie.After-enum-told) → whole (c .before .before) ≡ field modelWord comma ++ (header (c .before .before) newline ++ lines (c .before .before))
+clear : (c : tie.After-enum-told) → whole (told-counts c) ≡ field modelWord comma ++ (header (told-counts c) newline ++ lines (told-counts c))
 clear c =
-    let counts = c .before .before in
-    clear-parts _ _ _ (counts .before .before .name-count .ensures) (counts .before .rule-count .ensures) (counts .count .ensures) (c .enum-told .given .1)
+    let counts = told-counts c in
+    let a = at-start counts .args in
+    clear-parts (a .t2) (a .facts) (a .model) (counts .before .before .name-count .ensures) (counts .before .rule-count .ensures) (counts .count .ensures) (sym (c .before .before .lowest-both .ensures) ∙ c .enum-told .given .1)
 
-clear-room : (c : tie.After-enum-told) → Room (field modelWord comma ++ (header (c .before .before) newline ++ lines (c .before .before))) 0
-clear-room c = rw (clear c) at (whole-room (c .before .before))
+clear-room : (c : tie.After-enum-told) → Room (field modelWord comma ++ (header (told-counts c) newline ++ lines (told-counts c))) 0
+clear-room c = rw (clear c) at (whole-room (told-counts c))
 
 -- the parts of the listing with a clash
 abbrev name : tie.After-clash → List ℕ
-name c = field (getD (names (c .before .before)) (c .clash .given .0 .0) []) newline
+name c = field (getD (names (clash-counts c)) (c .clash .given .0 .0) []) newline
 
-clash : (c : tie.After-clash) → whole (c .before .before) ≡ field contradictionWord comma ++ (header (c .before .before) comma ++ name c)
+clash : (c : tie.After-clash) → whole (clash-counts c) ≡ field contradictionWord comma ++ (header (clash-counts c) comma ++ name c)
 clash c =
-    let counts = c .before .before in
-    clash-parts _ _ _ (counts .before .before .name-count .ensures) (counts .before .rule-count .ensures) (counts .count .ensures) (c .clash .given .0 .0) (c .clash .given .1)
+    let counts = clash-counts c in
+    let a = at-start counts .args in
+    clash-parts (a .t2) (a .facts) (a .model) (counts .before .before .name-count .ensures) (counts .before .rule-count .ensures) (counts .count .ensures) (c .clash .given .0 .0) (sym (c .before .before .lowest-both .ensures) ∙ c .clash .given .1)
 
-clash-room : (c : tie.After-clash) → Room (field contradictionWord comma ++ (header (c .before .before) comma ++ name c)) 0
-clash-room c = rw (clash c) at (whole-room (c .before .before))
+clash-room : (c : tie.After-clash) → Room (field contradictionWord comma ++ (header (clash-counts c) comma ++ name c)) 0
+clash-room c = rw (clash c) at (whole-room (clash-counts c))
 
 name-count-requires : tie.Need-name-count-requires
 name-count-requires c κs = search needs
@@ -82,6 +90,9 @@ rule-count-requires c κs = search needs
 
 count-requires : tie.Need-count-requires
 count-requires c κs = search needs
+
+lowest-both-requires : tie.Need-lowest-both-requires
+lowest-both-requires c κs = search needs
 
 enum-told : tie.Need-enum-told
 enum-told c = search needs
@@ -95,14 +106,14 @@ put-word-requires c κs = search needs
 put-counts-requires : tie.Need-put-counts-requires
 put-counts-requires c κs =
     let word = c .before .before .before in
-    let counts = at-clear word .before .before in
+    let counts = told-counts (at-clear word) in
     room-second (field modelWord comma) (header counts newline) (lines counts) (clear-room (at-clear word)) (word .put-word .ensures)
 
 put-name-lines-requires : tie.Need-put-name-lines-requires
 put-name-lines-requires c κs =
     let head = c .before .before .before .before .before .before .before .before in
     let word = at-word head in
-    let counts = at-clear word .before .before in
+    let counts = told-counts (at-clear word) in
     let most = clamp-most maxNames (at-start counts .args .t2 .names) in
     let count = counts .before .before .name-count .ensures in
     (room-third (field modelWord comma) (header counts newline) (lines counts) (clear-room (at-clear word)) (word .put-word .ensures) (head .put-counts .ensures), omega arith)
@@ -128,13 +139,13 @@ put-word-requires-2 c κs = search needs
 put-counts-requires-2 : tie.Need-put-counts-requires-2
 put-counts-requires-2 c κs =
     let word = c .before .before .before in
-    room-second (field contradictionWord comma) (header (at-clash word .before .before) comma) (name (at-clash word)) (clash-room (at-clash word)) (word .put-word2 .ensures)
+    room-second (field contradictionWord comma) (header (clash-counts (at-clash word)) comma) (name (at-clash word)) (clash-room (at-clash word)) (word .put-word2 .ensures)
 
 put-name-end-requires : tie.Need-put-name-end-requires
 put-name-end-requires c κs =
     let head = c .before .before .before .before .before .before .before .before in
     let word = at-word-2 head in
-    room-third (field contradictionWord comma) (header (at-clash word .before .before) comma) (name (at-clash word)) (clash-room (at-clash word)) (word .put-word2 .ensures) (head .put-counts2 .ensures)
+    room-third (field contradictionWord comma) (header (clash-counts (at-clash word)) comma) (name (at-clash word)) (clash-room (at-clash word)) (word .put-word2 .ensures) (head .put-counts2 .ensures)
 
 same-length-2 : tie.Need-same-length-2
 same-length-2 c = search needs
@@ -152,6 +163,7 @@ put-listing-spec =
     name-count-requires
     rule-count-requires
     count-requires
+    lowest-both-requires
     enum-told
     slice-aggregate-put-word
     put-word-requires

@@ -3,15 +3,17 @@
 use borrow.Author.Needs.{needs}
 use native.Mathlib.Omega.{arith}
 use mathlib.Core.Path.{_≡_, sym, _∙_}
-use Prim.Native.Nat.{_*_, _-_, _≤_}
-use lib.Count.{trailing-le}
+use Prim.Native.Nat.{_+_, _*_, _/_, _-_, _≤_}
+use lib.Count.{trailingZeros, trailing-le}
 use lib.ListN.{length, getD}
 use mir.Syntax.{w64}
 use mir.Val.{Fits}
-use Rattle.litset.specs.Words.{nWords}
+use Rattle.litset.specs.Words.{nWords, setOf}
 use Rattle.litset.specs.Steps.{pairs}
+use Rattle.litset.specs.declared.Clash.the-variants.{None, Name}
 use Rattle.litset.proofs.Words.{member-room}
 use Rattle.litset.proofs.Names.{NoneBefore, none-here, lowest-here}
+use Rattle.litset.proofs.Clashes.{clash-is}
 use Rattle.litset.proofs.lowest_both.Statement.{statement}
 use Rattle.litset.proofs.lowest_both.Tie as tie
 
@@ -49,7 +51,9 @@ returns c =
     let i = at .loop .i in
     let is : c .before .pairs-in .result ≡ pairs (getD ws i 0) = c .before .pairs-in .ensures in
     let fit : Fits w64 (getD ws i 0) = search needs in
-    rw is (lowest-here ws i (at .loop .inv .1) (fit .fits) (λ z. c .if1 .taken (is ∙ z)))
+    let size : length ws ≡ nWords = search needs in
+    clash-is (setOf ws) (member-room ws size) (Name (32 * i + trailingZeros 64 (c .before .pairs-in .result) / 2))
+    (rw is (lowest-here ws i (at .loop .inv .1) (fit .fits) (λ z. c .if1 .taken (is ∙ z))))
 
 add-i : tie.Need-add-i Inv-loop μ-loop
 add-i c = search needs
@@ -66,7 +70,8 @@ returns-2 : tie.Need-returns-2 Inv-loop μ-loop
 returns-2 c =
     let ws = c .before .before .args .t1 .words in
     let size : length ws ≡ nWords = search needs in
-    λ n b. c .before .loop .inv .1 n (omega (arith, member-room ws size (2 * n) (b .0))) b
+    clash-is (setOf ws) (member-room ws size) None
+    (λ n b. c .before .loop .inv .1 n (omega (arith, member-room ws size (2 * n) (b .0))) b)
 
 pub lowest-both-spec : {M : Type 1} → statement M
 lowest-both-spec =

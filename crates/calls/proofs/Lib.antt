@@ -1,0 +1,2 @@
+-- What every call owes, and what follows for every list of calls.
+pub mod Lists

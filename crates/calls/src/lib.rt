@@ -1,0 +1,1 @@
+// Lists of calls on a state: definitions and theorems, no code.

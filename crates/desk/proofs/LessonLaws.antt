@@ -1,0 +1,107 @@
+-- The laws of the calls on the desk's lesson: a change leaves what its arguments say and keeps the sets standing, and a call that reads changes nothing.
+use mathlib.Core.Path.{_≡_, refl, sym, _∙_, ap}
+use mathlib.Core.Bool.{Bool}
+use mathlib.Core.List.{List}
+use mathlib.Core.Logic.{_↔_}
+use Prim.Native.Nat.{ℕ}
+use Rattle.wfsx.specs.Trees.{Tree}
+use Rattle.search.specs.Questions.{questionOf}
+use Rattle.lesson.specs.State.{Own, State, bufferAfter}
+use Rattle.lesson.specs.Calls.{shelfOf, meaningOf, bytesOf}
+use Rattle.lesson.specs.declared.Lesson.{Lesson}
+use Rattle.lesson.specs.declared.Change.{Change}
+use Rattle.lesson.specs.declared.ChangeReply.{ChangeReply}
+use Rattle.lesson.proofs.Rows.{change-by, verdict-by, search-by, model-by, listing-by}
+use Rattle.lesson.proofs.Sound.{sound-change}
+use Rattle.lesson.proofs.Standing.{change-stands, bytes-stand}
+use Rattle.lesson.proofs.ChangeLaws.{change-means, change-kept, change-exists}
+use Rattle.lesson.proofs.Exists.{verdict-exists, search-exists, model-reply-exists, listing-exists}
+use Rattle.calls.specs.Lists.{CallSpec}
+use Rattle.desk.specs.Calls.{stateOf}
+use Rattle.desk.specs.Runs.{change, verdict, search-for, model, listing, specOf}
+use Rattle.desk.specs.declared.Desk.{Desk}
+use Rattle.desk.proofs.Laws.{Good, DeskLaws}
+
+-- ---- putting in and taking out
+
+pub change-laws : (c : Change) → DeskLaws (specOf (change c))
+change-laws c =
+    record {
+      means = λ k r g h. with-own k r (change-means (k .shelf) (k .lesson) c r h);
+      good = λ k r g h.
+          record {
+            sound = rw (change-means (k .shelf) (k .lesson) c r h) (sound-change c (stateOf k) (g .sound));
+            stands = change-stands (k .shelf) (k .lesson) (g .stands) c r h;
+          };
+      exactly = λ k r g h number line. rw (h .says) (change-by (stateOf k) c number);
+      kept = λ k r h number line e. (ap (λ (l : Lesson). record { shelf = k .shelf; lesson = l }) (change-kept (k .shelf) (k .lesson) c r h number e), record {});
+      replies = λ k g. change-exists (k .shelf) (k .lesson) c (g .sound);
+    }
+  where
+    with-own : (k : Desk) (r : ChangeReply) {o : Own} → meaningOf (k .shelf) (r .lesson) .own ≡ o
+        → _≡_ {A = State} (meaningOf (k .shelf) (r .lesson)) (record { book = stateOf k .book; own = o })
+    with-own k r e = ap (λ (o : Own). record { book = shelfOf (k .shelf); own = o }) e
+
+-- ---- the calls that read
+
+-- such a call owes its refusals, the bytes of a lent buffer where it is refused, and a reply
+record ReadLaws (c : CallSpec Desk State) : Type 0 where
+  pub stays : (d : State) → c .after d ≡ d
+  pub leaves : (k : Desk) (r : c .Reply) → c .next k r ≡ k
+  pub exactly : (k : Desk) (r : c .Reply) → Good k → c .Meets k r → (number line : ℕ) → c .RefusedBy r number line ↔ c .TurnsDown (stateOf k) number line
+  pub unwritten : (k : Desk) (r : c .Reply) → c .Meets k r → (number line : ℕ) → c .RefusedBy r number line → c .Unwritten r
+  pub replies : (k : Desk) → (r : c .Reply) × c .Meets k r
+
+reading : {c : CallSpec Desk State} → ReadLaws c → DeskLaws c
+reading {c} h =
+    record {
+      means = λ k r g e. ap stateOf (h .leaves k r) ∙ sym (h .stays (stateOf k));
+      good = λ k r g e. rw (h .leaves k r) g;
+      exactly = h .exactly;
+      kept = λ k r e number line q. (h .leaves k r, h .unwritten k r e number line q);
+      replies = λ k g. h .replies k;
+    }
+
+pub verdict-laws : (A : ℕ) → DeskLaws (specOf (verdict A))
+verdict-laws A =
+    reading
+    (record {
+      stays = λ d. refl;
+      leaves = λ k r. refl;
+      exactly = λ k r g h number line. rw (h .says) (verdict-by (stateOf k) (g .sound) _ _ (g .stands .truths) A number);
+      unwritten = λ k r h number line e. record {};
+      replies = λ k. verdict-exists (k .shelf) (k .lesson) A;
+    })
+
+pub search-laws : (A : ℕ) (default : Bool) (t : Tree) → DeskLaws (specOf (search-for A default t))
+search-laws A default t =
+    reading
+    (record {
+      stays = λ d. refl;
+      leaves = λ k r. refl;
+      exactly = λ k r g h number line. rw (h .says) (search-by (stateOf k) A t (questionOf A default) number);
+      unwritten = λ k r h number line e. record {};
+      replies = λ k. search-exists (k .shelf) (k .lesson) A t (questionOf A default);
+    })
+
+pub model-laws : DeskLaws (specOf model)
+model-laws =
+    reading
+    (record {
+      stays = λ d. refl;
+      leaves = λ k r. refl;
+      exactly = λ k r g h number line. rw (h .says) (model-by (stateOf k) _ number);
+      unwritten = λ k r h number line e. record {};
+      replies = λ k. model-reply-exists (k .shelf) (k .lesson);
+    })
+
+pub listing-laws : (buffer : List ℕ) → DeskLaws (specOf (listing buffer))
+listing-laws buffer =
+    reading
+    (record {
+      stays = λ d. refl;
+      leaves = λ k r. refl;
+      exactly = λ k r g h number line. rw (h .says, bytes-stand (k .shelf) (k .lesson) (g .stands)) (listing-by (stateOf k) buffer number);
+      unwritten = λ k r h number line e. h .buffer ∙ ap (bufferAfter (bytesOf (k .shelf) (k .lesson)) buffer) e;
+      replies = λ k. let w = listing-exists (k .shelf) (k .lesson) buffer in ((w .0, w .1), w .2);
+    })

@@ -1,0 +1,88 @@
+-- Some lesson begins on each book, and some answer meets the contract of each call that reads.
+use mathlib.Core.Path.{_≡_, refl}
+use mathlib.Core.Bool.{Bool, true, false, cond}
+use mathlib.Core.List.{List}
+use Prim.Native.Nat.{ℕ}
+use lib.ListN.{replicate}
+use Rattle.wfsx.specs.Sets.{Set, ∅}
+use Rattle.wfsx.specs.Program.{Entry}
+use Rattle.wfsx.specs.Model as wfsx
+use Rattle.wfsx.specs.Trees.{Tree}
+use Rattle.litset.specs.Words.{nWords, setOf}
+use Rattle.litset.specs.declared.LitSet.{LitSet}
+use Rattle.litset.proofs.Words.{set-zeros}
+use Rattle.book.specs.Book.{programOf}
+use Rattle.book.specs.declared.Book.{Book}
+use Rattle.book.proofs.Heads.{program-heads}
+use Rattle.fixpoint.specs.declared.Verdict.the-variants.{True, False, Undefined}
+use Rattle.fixpoint.proofs.Published.{model-exists}
+use Rattle.lesson.specs.State.{BookState, noneLoaded, Said, gives, refused, searchSays, verdictSays, modelSays, setGiven, listingSays, bufferAfter}
+use Rattle.lesson.specs.Calls.{shelfOf, meaningOf, truthsOf, nonfalseOf, Begins, verdictSaid, GivesVerdict, searchSaid, Searches, modelSaid, GivesModel, listingSaid, bytesOf, Lists}
+use Rattle.lesson.specs.declared.Shelf.{Shelf}
+use Rattle.lesson.specs.declared.Lesson.{Lesson}
+use Rattle.lesson.specs.declared.VerdictAnswer.{VerdictAnswer}
+use Rattle.lesson.specs.declared.VerdictAnswer.the-variants as verdict
+use Rattle.lesson.specs.declared.SearchAnswer.{SearchAnswer}
+use Rattle.lesson.specs.declared.SearchAnswer.the-variants as searched
+use Rattle.lesson.specs.declared.ModelReply.{ModelReply}
+use Rattle.lesson.specs.declared.ModelAnswer.{ModelAnswer}
+use Rattle.lesson.specs.declared.ModelAnswer.the-variants as model
+use Rattle.lesson.specs.declared.ListingAnswer.{ListingAnswer}
+use Rattle.lesson.specs.declared.ListingAnswer.the-variants as listing
+use Rattle.lesson.proofs.Replies.{begins}
+
+abbrev none : LitSet
+none = record { words = replicate nWords 0 }
+
+pub begin-exists : (b : Book) → (l : Lesson) × Begins b l
+begin-exists b =
+    let m = model-exists (programOf b (setOf (none .words))) (program-heads b (setOf (none .words))) in
+    (record { facts = none; model = m .0 }, begins b none (m .0) (set-zeros nWords) (m .1))
+
+verdict-for : (said : Said wfsx.Verdict) → (a : VerdictAnswer) × (verdictSaid a ≡ said)
+verdict-for (gives wfsx.is-true) = (verdict.Given True, refl)
+verdict-for (gives wfsx.is-false) = (verdict.Given False, refl)
+verdict-for (gives wfsx.is-undefined) = (verdict.Given Undefined, refl)
+verdict-for (refused n) = (verdict.Refused n, refl)
+
+search-for : (said : Said Bool) → (a : SearchAnswer) × (searchSaid a ≡ said)
+search-for (gives holds) = (searched.Given holds, refl)
+search-for (refused n) = (searched.Refused n, refl)
+
+model-for : (said : Said Bool) → (a : ModelAnswer) × (modelSaid a ≡ said)
+model-for (gives true) = (model.Contradictory, refl)
+model-for (gives false) = (model.Consistent, refl)
+model-for (refused n) = (model.Refused n, refl)
+
+length-for : (said : Said ℕ) → (a : ListingAnswer) × (listingSaid a ≡ said)
+length-for (gives n) = (listing.Length n, refl)
+length-for (refused n) = (listing.Refused n, refl)
+
+set-for : (b : BookState) (t : LitSet) → (u : LitSet) × (setOf (u .words) ≡ setGiven b (setOf (t .words)))
+unfolding setGiven
+set-for b t = go (noneLoaded b)
+  where
+    go : (none-loaded : Bool) → (u : LitSet) × (setOf (u .words) ≡ cond none-loaded ∅ (setOf (t .words)))
+    go true = (none, set-zeros nWords)
+    go false = (t, refl)
+
+module _ (s : Shelf) (l : Lesson) where
+  pub verdict-exists : (A : ℕ) → (r : VerdictAnswer) × GivesVerdict s l A r
+  verdict-exists A =
+      let w = verdict-for (verdictSays (shelfOf s) (truthsOf l) (nonfalseOf l) A) in
+      (w .0, record { says = w .1 })
+
+  pub search-exists : (A : ℕ) (k : Tree) (question : Entry) → (r : SearchAnswer) × Searches s l A k question r
+  search-exists A k question = let w = search-for (searchSays (meaningOf s l) A k question) in (w .0, record { says = w .1 })
+
+  pub model-reply-exists : (r : ModelReply) × GivesModel s l r
+  model-reply-exists =
+      let w = model-for (modelSays (shelfOf s) (truthsOf l)) in
+      let T = set-for (shelfOf s) (l .model .truths) in
+      let U = set-for (shelfOf s) (l .model .nonfalse) in
+      (record { answer = w .0; model = record { truths = T .0; nonfalse = U .0 } }, record { says = w .1; truths = T .1; nonfalse = U .1 })
+
+  pub listing-exists : (buffer : List ℕ) → (r : ListingAnswer) × (after : List ℕ) × Lists s l buffer r after
+  listing-exists buffer =
+      let w = length-for (listingSays (shelfOf s) (bytesOf s l) buffer) in
+      (w .0, bufferAfter (bytesOf s l) buffer (listingSaid (w .0)), record { says = w .1; buffer = refl })

@@ -1,0 +1,210 @@
+-- What a reply is once the tests of a call have picked an arm, over plain values: the calls' proofs cite these.
+use mathlib.Core.Path.{_≡_, refl, sym, _∙_, ap, ap₂}
+use mathlib.Core.Bool.{Bool, true, false, cond, true≢false}
+use mathlib.Core.Logic.{_⊎_, inl, inr}
+use mathlib.Core.List.{List, _++_}
+use lib.Dec.{leb}
+use lib.ListN.{length, drop}
+use Prim.Native.Nat.{ℕ, _≤_, _<_}
+use native.Mathlib.Omega.{arith}
+use Rattle.wfsx.specs.Sets.{Set, ∅}
+use Rattle.wfsx.specs.Program.{Entry, Program}
+use Rattle.wfsx.specs.Trees as trees
+use Rattle.wfsx.specs.Trees.{answer}
+use Rattle.litset.specs.Words.{capacity, setOf, with, without, clashIn}
+use Rattle.litset.specs.declared.LitSet.{LitSet}
+use Rattle.litset.proofs.Words.{with-room}
+use Rattle.litset.specs.declared.Clash.{Clash}
+use Rattle.litset.specs.declared.Clash.the-variants as clash
+use Rattle.book.specs.Book.{programOf}
+use Rattle.book.specs.declared.Book.{Book}
+use Rattle.fixpoint.specs.Result.{ModelOf, verdictIs, verdictIn}
+use Rattle.fixpoint.specs.declared.Model.{Model}
+use Rattle.fixpoint.specs.declared.Verdict.{Verdict}
+use Rattle.lister.specs.Listing.{listingBySets}
+use Rattle.lister.specs.Listing as lister
+use Rattle.lister.specs.Buffer.{Writes}
+use Rattle.lister.specs.declared.Written.{Written}
+use Rattle.lister.specs.declared.Written.the-variants.{Length, Short}
+use Rattle.lister.proofs.Calls.{was-written, was-short}
+use Rattle.lister.proofs.Lines.{listing-room}
+use Rattle.lesson.specs.State.{BookState, Own, emptied, itsNames, itsRules, inForce, programIn, Said, gives, refused, Ack, acknowledged, noneLoaded, ifLoaded, inOrder, literalIn, changeFits, changeSays, changedSet, changed, searchSays, unlessClash, verdictSays, isClash, modelSays, setGiven, listingFrom, listingSays, bufferAfter}
+use Rattle.lesson.specs.Calls.{shelfOf, ownOf, meaningOf, truthsOf, nonfalseOf, numberSays, Begins, ModelAfter, changeSaid, Changes, GivesVerdict, Searches, GivesModel, bytesOf, Lists}
+use Rattle.lesson.specs.declared.Shelf.{Shelf}
+use Rattle.lesson.specs.declared.Lesson.{Lesson}
+use Rattle.lesson.specs.declared.Change.{Change}
+use Rattle.lesson.specs.declared.Change.the-variants.{PutIn, TakeOut}
+use Rattle.lesson.specs.declared.ChangeAnswer.the-variants as change
+use Rattle.lesson.specs.declared.VerdictAnswer.the-variants as verdict
+use Rattle.lesson.specs.declared.SearchAnswer.the-variants as searched
+use Rattle.lesson.specs.declared.ModelAnswer.the-variants as model
+use Rattle.lesson.specs.declared.ListingAnswer.the-variants as listing
+use Rattle.lesson.proofs.Order.{unloaded-says, loaded-says, given-inside, number-refused, number-given, turned-down, state-passed, passed}
+use Rattle.lesson.proofs.Meaning.{shelf-loaded, none-loaded-is, loaded-is, inside-room, program-is}
+
+-- ---- the lesson
+
+pub force-is : (l : Lesson) → setOf (l .facts .words) ≡ inForce (ownOf l)
+unfolding inForce ownOf
+force-is l = refl
+
+own-with : (l : Lesson) (F : Set) → setOf (l .facts .words) ≡ F → ownOf l ≡ record { putIn = F }
+unfolding ownOf
+own-with l F e = ap (λ (S : Set). record { putIn = S }) e
+
+pub begins : (book : Book) (facts : LitSet) (m : Model) → setOf (facts .words) ≡ ∅ → ModelOf (programOf book (setOf (facts .words))) m
+    → Begins book (record { facts = facts; model = m })
+begins book facts m none is = record { own-is = own-with (record { facts = facts; model = m }) ∅ none; model-is = rw none at is }
+
+-- ---- putting in and taking out
+
+module _ (c : Change) (A : ℕ) (S W : Set) where
+  pub put-in-set : c ≡ PutIn A → literalIn c < capacity → W ≡ with A S → W ≡ changedSet c S
+  put-in-set e h w = w ∙ with-room A S (rw e at h) ∙ rw e refl
+
+  pub taken-out-set : c ≡ TakeOut A → W ≡ without A S → W ≡ changedSet c S
+  taken-out-set e w = w ∙ rw e refl
+
+module _ (s : Shelf) (l : Lesson) (c : Change) (A n : ℕ) (is : A ≡ literalIn c) (e : numberSays n ≡ inOrder (shelfOf s) A (gives acknowledged)) where
+  abbrev fits : Said Ack
+  fits = changeFits c (setOf (l .facts .words) (literalIn c))
+
+  says-fits : inOrder (shelfOf s) A fits ≡ changeSays (meaningOf s l) c
+  unfolding changeSays ownOf
+  says-fits = ap (λ (B : ℕ). inOrder (shelfOf s) B fits) is
+
+  pub change-turned : (n ≡ 0 → ⊥) → numberSays n ≡ changeSays (meaningOf s l) c
+  change-turned z = number-refused n z ∙ turned-down (shelfOf s) A n e fits z ∙ says-fits
+
+  pub change-fitting : n ≡ 0 → (now : Bool) → now ≡ setOf (l .facts .words) A → (k : ℕ) → numberSays k ≡ changeFits c now
+      → numberSays k ≡ changeSays (meaningOf s l) c
+  change-fitting z now h k f =
+      f ∙ ap (changeFits c) (h ∙ ap (setOf (l .facts .words)) is) ∙ sym (passed (shelfOf s) A n e fits z) ∙ says-fits
+
+module _ (s : Shelf) (l : Lesson) (c : Change) (n : ℕ) (e : numberSays n ≡ changeSays (meaningOf s l) c) where
+  pub change-refused : (n ≡ 0 → ⊥) → Changes s l c (record { answer = change.Refused n; lesson = l })
+  change-refused z = record { says = sym (number-refused n z) ∙ e; leaves = refl }
+
+  module _ (z : n ≡ 0) where
+    accepted : (noneLoaded (shelfOf s) ≡ false) × (literalIn c < capacity)
+    unfolding changeSays
+    accepted =
+        let given = given-inside (shelfOf s) (literalIn c) _ acknowledged (sym e ∙ number-given n z) in
+        (given .0, inside-room s (literalIn c) (given .1))
+
+    pub change-room : literalIn c < capacity
+    change-room = accepted .1
+
+    pub change-done : (facts : LitSet) (m : Model) → setOf (facts .words) ≡ changedSet c (setOf (l .facts .words))
+        → (F : Set) → F ≡ inForce (ownOf (record { facts = facts; model = l .model })) → ModelAfter l F (programOf (s .book) F) m
+        → Changes s l c (record { answer = change.Done; lesson = record { facts = facts; model = m } })
+    unfolding ownOf
+    change-done facts m is F force after =
+        let own = own-with (record { facts = facts; model = m }) _ is in
+        let same : F ≡ inForce (changed c (ownOf l)) = force ∙ ap inForce own in
+        record {
+          says = sym (number-given n z) ∙ e;
+          leaves =
+              record {
+                own-is = own;
+                model-is = rw (program-is s (accepted .0) (changed c (ownOf l))) at (rw same at after);
+              };
+        }
+
+-- ---- verdict and search
+
+module _ (s : Shelf) (l : Lesson) (A n : ℕ) (e : numberSays n ≡ inOrder (shelfOf s) A (gives acknowledged)) where
+  pub verdict-state : (n ≡ 0 → ⊥) → GivesVerdict s l A (verdict.Refused n)
+  unfolding verdictSays
+  verdict-state z = record { says = turned-down (shelfOf s) A n e _ z }
+
+  pub search-state : (n ≡ 0 → ⊥) → (k : trees.Tree) (question : Entry) → Searches s l A k question (searched.Refused n)
+  unfolding searchSays
+  search-state z k question = record { says = turned-down (shelfOf s) A n e _ z }
+
+  module _ (z : n ≡ 0) where
+    pub search-given : (k : trees.Tree) (question : Entry) (F : Set) → F ≡ inForce (ownOf l) → (holds : Bool) → holds ≡ answer (programOf (s .book) F) k question
+        → Searches s l A k question (searched.Given holds)
+    unfolding searchSays
+    search-given k question F force holds h =
+        let same = program-is s (state-passed (shelfOf s) A n e z .0) (ownOf l) in
+        record {
+          says =
+              ap gives (h ∙ ap (λ (G : Set). answer (programOf (s .book) G) k question) force ∙ ap (λ (Q : Program). answer Q k question) same)
+              ∙ sym (passed (shelfOf s) A n e _ z);
+        }
+
+    module _ (found : Clash) (f : found ≡ clashIn (truthsOf l)) where
+      says-by : (b : Clash) → found ≡ b → verdictSays (shelfOf s) (truthsOf l) (nonfalseOf l) A ≡ unlessClash b (gives (verdictIn (truthsOf l) (nonfalseOf l) A))
+      unfolding verdictSays
+      says-by b h = passed (shelfOf s) A n e _ z ∙ ap (λ (x : Clash). unlessClash x (gives (verdictIn (truthsOf l) (nonfalseOf l) A))) (sym f ∙ h)
+
+      pub verdict-24 : (k : ℕ) → found ≡ clash.Name k → GivesVerdict s l A (verdict.Refused 24)
+      verdict-24 k h = record { says = sym (says-by (clash.Name k) h) }
+
+      pub verdict-given : found ≡ clash.None → (v : Verdict) → verdictIs v ≡ verdictIn (truthsOf l) (nonfalseOf l) A → GivesVerdict s l A (verdict.Given v)
+      verdict-given h v w = record { says = ap gives w ∙ sym (says-by clash.None h) }
+
+-- ---- model
+
+module _ (s : Shelf) (l : Lesson) where
+  pub model-20 : s .loaded ≡ 0 → (T U : LitSet) → setOf (T .words) ≡ ∅ → setOf (U .words) ≡ ∅
+      → GivesModel s l (record { answer = model.Refused 20; model = record { truths = T; nonfalse = U } })
+  unfolding modelSays setGiven
+  model-20 e T U t u =
+      let none = none-loaded-is s e in
+      record { says = sym (unloaded-says (shelfOf s) _ none); truths = rw none t; nonfalse = rw none u }
+
+  module _ (e : s .loaded ≡ 0 → ⊥) (found : Clash) (f : found ≡ clashIn (truthsOf l)) where
+    model-by : (b : Clash) → found ≡ b → modelSays (shelfOf s) (truthsOf l) ≡ gives (isClash b)
+    unfolding modelSays
+    model-by b h = loaded-says (shelfOf s) _ (loaded-is s e) ∙ ap (λ (x : Clash). gives (isClash x)) (sym f ∙ h)
+
+    pub model-contradictory : (k : ℕ) → found ≡ clash.Name k → GivesModel s l (record { answer = model.Contradictory; model = l .model })
+    unfolding setGiven
+    model-contradictory k h =
+        let some = loaded-is s e in
+        record { says = sym (model-by (clash.Name k) h); truths = rw some refl; nonfalse = rw some refl }
+
+    pub model-consistent : found ≡ clash.None → GivesModel s l (record { answer = model.Consistent; model = l .model })
+    unfolding setGiven
+    model-consistent h =
+        let some = loaded-is s e in
+        record { says = sym (model-by clash.None h); truths = rw some refl; nonfalse = rw some refl }
+
+-- ---- listing
+
+bytes-are : (s : Shelf) (l : Lesson) → (s .loaded ≡ 0 → ⊥) → (facts : LitSet) → setOf (facts .words) ≡ inForce (ownOf l) → lister.listingIn (s .book) facts (l .model) ≡ bytesOf s l
+unfolding listingFrom
+bytes-are s l e facts force = rw (force, shelf-loaded s e) refl
+
+-- no listing is longer
+pub bytes-most : (s : Shelf) (l : Lesson) → noneLoaded (shelfOf s) ≡ false → length (bytesOf s l) ≤ 65536
+bytes-most s l e =
+    let same = bytes-are s l (λ z. true≢false (sym (none-loaded-is s z) ∙ e)) (l .facts) (force-is l) in
+    omega (arith, ap length same, listing-room (s .book) (l .facts) (l .model) .fits)
+
+module _ (s : Shelf) (l : Lesson) (before : List ℕ) where
+  pub listing-20 : s .loaded ≡ 0 → Lists s l before (listing.Refused 20) before
+  unfolding listingSays
+  listing-20 e = record { says = sym (unloaded-says (shelfOf s) _ (none-loaded-is s e)); buffer = refl }
+
+  module _ (e : s .loaded ≡ 0 → ⊥) (facts : LitSet) (force : setOf (facts .words) ≡ inForce (ownOf l)) (after : List ℕ) (w : Written)
+      (h : Writes (lister.listingIn (s .book) facts (l .model)) before w after) where
+    writes : Writes (bytesOf s l) before w after
+    writes = rw (bytes-are s l e facts force) at h
+
+    says-by-length : (t : Bool) → leb (length (bytesOf s l)) (length before) ≡ t
+        → listingSays (shelfOf s) (bytesOf s l) before ≡ cond t (gives (length (bytesOf s l))) (refused 25)
+    unfolding listingSays
+    says-by-length t q = loaded-says (shelfOf s) _ (loaded-is s e) ∙ rw q refl
+
+    pub listing-length : (n : ℕ) → w ≡ Length n → Lists s l before (listing.Length n) after
+    listing-length n q =
+        let was = was-written writes n q in
+        record { says = sym (says-by-length true (was .0) ∙ ap gives (was .1)); buffer = was .2 }
+
+    pub listing-25 : w ≡ Short → Lists s l before (listing.Refused 25) after
+    listing-25 q =
+        let was = was-short writes q in
+        record { says = sym (says-by-length false (was .0)); buffer = was .1 }

@@ -1,0 +1,118 @@
+-- What a call says is a refusal exactly by the first of its conditions that is met.
+use mathlib.Core.Path.{_≡_, refl, sym, _∙_, ap}
+use mathlib.Core.Bool.{Bool, true, false, cond, true≢false}
+use mathlib.Core.List.{List, [], _∷_}
+use mathlib.Core.Logic.{_↔_, _⊎_, inl, inr}
+use Prim.Native.Nat.{ℕ, _*_, _<_}
+use native.Mathlib.Omega.{arith}
+use lib.Dec.{leb}
+use lib.ListN.{length}
+use borrow.Author.Tests.{ltb-true, ltb-false, leb-true, leb-false}
+use Rattle.wfsx.specs.Sets.{Set, _∈_, _∉_}
+use Rattle.wfsx.specs.Program.{Entry, Rule}
+use Rattle.wfsx.specs.Model.{M}
+use Rattle.wfsx.specs.Trees.{Tree}
+use Rattle.truth.proofs.Truth.{decided}
+use Rattle.litset.specs.Words.{clashIn}
+use Rattle.litset.specs.declared.Clash.{Clash}
+use Rattle.litset.specs.declared.Clash.the-variants as clash
+use Rattle.reader.specs.Conditions.{Row, First}
+use Rattle.fixpoint.specs.Result.{verdictIn}
+use Rattle.fixpoint.proofs.Published.{no-clash, clash-name}
+use Rattle.lesson.specs.State.{BookState, unloaded, loaded-with, State, itsNames, programIn, ContradictoryOver, listingIn, noneLoaded, inBook, Said, gives, refused, acknowledged, ifLoaded, inOrder, literalIn, changeFits, changeSays, searchSays, unlessClash, verdictSays, modelSays, listingSays}
+use Rattle.lesson.specs.Conditions.{NoBook, NotBelow, changeRow, changeRows, verdictRows, searchRows, modelRows, listingRows}
+use Rattle.lesson.specs.declared.Change.{Change}
+use Rattle.lesson.specs.declared.Change.the-variants.{PutIn, TakeOut}
+use Rattle.lesson.proofs.Order.{given-refused, refused-same, unloaded-says, loaded-says, none-loaded, outside, inside}
+use Rattle.lesson.proofs.Sound.{Sound, heads-in-book, heads-in-room}
+
+abbrev pub By : {X : Type 0} → Said X → List Row → Type 0
+By said rows = (number : ℕ) → (said ≡ refused number) ↔ First number rows
+
+met : {X : Type 0} (n : ℕ) (C : Type 0) (rows : List Row) (said : Said X) → C → said ≡ refused n → By said ((n, C) ∷ rows)
+met {X} n C rows said c e k = (λ h. inl (refused-same k n (sym h ∙ e), c), back)
+  where
+    back : First k ((n, C) ∷ rows) → said ≡ refused k
+    back (inl w) = rw (w .0) e
+    back (inr w) = absurd (w .0 c)
+
+unmet : {X : Type 0} (n : ℕ) (C : Type 0) (rows : List Row) (said : Said X) → (C → ⊥) → By said rows → By said ((n, C) ∷ rows)
+unmet {X} n C rows said never by k = (λ h. inr (never, by k .0 h), back)
+  where
+    back : First k ((n, C) ∷ rows) → said ≡ refused k
+    back (inl w) = absurd (never (w .1))
+    back (inr w) = by k .1 (w .1)
+
+given-by : {X : Type 0} (x : X) (said : Said X) → said ≡ gives x → By said []
+given-by x said e k = (λ h. given-refused x k (sym e ∙ h), λ w. absurd w)
+
+not-unloaded : (names : List (List ℕ)) (rules : List Rule) → _≡_ {A = BookState} (loaded-with names rules) unloaded → ⊥
+not-unloaded names rules e = true≢false (sym (ap noneLoaded e))
+
+-- 20 first
+loaded-by : {X : Type 0} (d : State) (rows : List Row) (said : Said X) → By said rows → By (ifLoaded (d .book) said) ((20, NoBook d) ∷ rows)
+loaded-by {X} d rows said by = go (d .book) refl
+  where
+    go : (b : BookState) → d .book ≡ b → By (ifLoaded (d .book) said) ((20, NoBook d) ∷ rows)
+    go unloaded e = met 20 (NoBook d) rows _ e (unloaded-says (d .book) said (ap noneLoaded e))
+    go (loaded-with names rules) e =
+        unmet 20 (NoBook d) rows _ (λ h. not-unloaded names rules (sym e ∙ h)) (rw (loaded-says (d .book) said (ap noneLoaded e)) by)
+
+-- 20, then 21
+order-by : {X : Type 0} (d : State) (A : ℕ) (rows : List Row) (fits : Said X) → By fits rows → By (inOrder (d .book) A fits) ((20, NoBook d) ∷ (21, NotBelow d A) ∷ rows)
+unfolding inOrder inBook
+order-by {X} d A rows fits by = loaded-by d ((21, NotBelow d A) ∷ rows) _ (go (decided (inBook (d .book) A)))
+  where
+    go : (A ∈ inBook (d .book)) ⊎ (A ∉ inBook (d .book)) → By (cond (inBook (d .book) A) fits (refused 21)) ((21, NotBelow d A) ∷ rows)
+    go (inl i) =
+        let below = ltb-true A (2 * length (itsNames (d .book))) i in
+        unmet 21 (NotBelow d A) rows _ (λ q. omega arith) (rw i by)
+    go (inr o) = met 21 (NotBelow d A) rows _ (ltb-false A (2 * length (itsNames (d .book))) o) (rw o refl)
+
+-- ---- the calls
+
+pub change-by : (d : State) (c : Change) → By (changeSays d c) (changeRows d c)
+unfolding changeSays
+change-by d c = order-by d (literalIn c) (changeRow d c ∷ []) _ (fits c)
+  where
+    fits : (c : Change) → By (changeFits c (d .own .putIn (literalIn c))) (changeRow d c ∷ [])
+    fits (PutIn A) = go (d .own .putIn A) refl
+      where
+        go : (t : Bool) → d .own .putIn A ≡ t → By (changeFits (PutIn A) t) ((22, A ∈ d .own .putIn) ∷ [])
+        go true e = met 22 (A ∈ d .own .putIn) [] _ e refl
+        go false e = unmet 22 (A ∈ d .own .putIn) [] _ (λ h. true≢false (sym h ∙ e)) (given-by acknowledged _ refl)
+    fits (TakeOut A) = go (d .own .putIn A) refl
+      where
+        go : (t : Bool) → d .own .putIn A ≡ t → By (changeFits (TakeOut A) t) ((23, A ∉ d .own .putIn) ∷ [])
+        go true e = unmet 23 (A ∉ d .own .putIn) [] _ (λ h. true≢false (sym e ∙ h)) (given-by acknowledged _ refl)
+        go false e = met 23 (A ∉ d .own .putIn) [] _ e refl
+
+pub search-by : (d : State) (A : ℕ) (k : Tree) (question : Entry) → By (searchSays d A k question) (searchRows d A)
+unfolding searchSays
+search-by d A k question = order-by d A [] _ (given-by _ _ refl)
+
+-- where T is M, 24 is said exactly of a contradictory lesson
+pub verdict-by : (d : State) → Sound d → (T U : Set) → T ≡ M (programIn d) → (A : ℕ) → By (verdictSays (d .book) T U A) (verdictRows d A)
+unfolding verdictSays
+verdict-by d s T U t A = order-by d A ((24, ContradictoryOver (inBook (d .book)) d) ∷ []) _ (go (clashIn T) refl)
+  where
+    go : (c : Clash) → clashIn T ≡ c → By (unlessClash c (gives (verdictIn T U A))) ((24, ContradictoryOver (inBook (d .book)) d) ∷ [])
+    go clash.None e =
+        unmet 24 (ContradictoryOver (inBook (d .book)) d) [] _ (no-clash (programIn d) (heads-in-room d s) (inBook (d .book)) (heads-in-book d s) .0 (rw t at e)) (given-by _ _ refl)
+    go (clash.Name n) e =
+        met 24 (ContradictoryOver (inBook (d .book)) d) [] _ (clash-name (programIn d) (heads-in-room d s) (inBook (d .book)) (heads-in-book d s) n .0 (rw t at e) .0) refl
+
+pub model-by : (d : State) (T : Set) → By (modelSays (d .book) T) (modelRows d)
+unfolding modelSays
+model-by d T = loaded-by d [] _ (given-by _ _ refl)
+
+pub listing-by : (d : State) (buffer : List ℕ) → By (listingSays (d .book) (listingIn d) buffer) (listingRows d buffer)
+unfolding listingSays
+listing-by d buffer = loaded-by d ((25, length buffer < length (listingIn d)) ∷ []) _ (go (leb (length (listingIn d)) (length buffer)) refl)
+  where
+    go : (t : Bool) → leb (length (listingIn d)) (length buffer) ≡ t
+        → By (cond t (gives (length (listingIn d))) (refused 25)) ((25, length buffer < length (listingIn d)) ∷ [])
+    go true e =
+        let fits = leb-true (length (listingIn d)) (length buffer) e in
+        unmet 25 (length buffer < length (listingIn d)) [] _ (λ h. omega arith) (given-by (length (listingIn d)) _ refl)
+    go false e = met 25 (length buffer < length (listingIn d)) [] _ (leb-false (length (listingIn d)) (length buffer) e) refl

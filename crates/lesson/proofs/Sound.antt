@@ -1,0 +1,86 @@
+-- What a list of calls leaves is sound: heads and facts are literals of its book, which has no more names than a table. So its program is one over the
+-- literals of the book, and has room in a set.
+use mathlib.Core.Path.{_≡_, refl, sym, _∙_}
+use mathlib.Core.Bool.{true, false, not, true≢false}
+use mathlib.Core.Logic.{⊎-elim}
+use mathlib.Core.List.{List, map, List·Memᴰ·append-cases, List·Memᴰ·not-nil, Memᴰ·of-map}
+use Prim.Native.Nat.{ℕ, _*_, _≤_, _<_}
+use native.Mathlib.Omega.{arith}
+use lib.Dec.{eqb}
+use lib.ListN.{length}
+use borrow.Author.Tests.{eqb-true, ltb-true, lt-ltb}
+use Rattle.wfsx.specs.Sets.{_∈_, _isIn_, members}
+use Rattle.wfsx.specs.Program.{Rule, fact}
+use Rattle.wfsx.specs.Model.{Heads⊆}
+use Rattle.wfsx.proofs.Members.{members-are}
+use Rattle.truth.proofs.Truth.{and-l, or-elim}
+use Rattle.litset.specs.Words.{room, capacity}
+use Rattle.litset.proofs.Words.{without-at}
+use Rattle.book.specs.Limits.{maxNames}
+use Rattle.lesson.specs.State.{unloaded, loaded-with, State, emptied, itsNames, itsRules, inForce, programIn, inBook, Said, gives, refused, Ack, literalIn, changeSays, changedSet, changed, unlessRefused, ownAfter}
+use Rattle.lesson.specs.declared.Change.{Change}
+use Rattle.lesson.specs.declared.Change.the-variants.{PutIn, TakeOut}
+use Rattle.lesson.proofs.Order.{given-inside}
+
+pub record Sound (d : State) : Type 0 where
+  pub few-names : length (itsNames (d .book)) ≤ maxNames
+  pub heads-known : (r : Rule) → r isIn itsRules (d .book) → r .head ∈ inBook (d .book)
+  pub facts-known : (A : ℕ) → A ∈ inForce (d .own) → A ∈ inBook (d .book)
+
+-- ---- where it comes from
+
+pub sound-nothing : Sound (record { book = unloaded; own = emptied })
+unfolding inForce
+sound-nothing =
+    record { few-names = omega arith; heads-known = λ r i. absurd (List·Memᴰ·not-nil i); facts-known = λ A h. absurd (true≢false (sym h)) }
+
+pub sound-book : (names : List (List ℕ)) (rules : List Rule) → length names ≤ maxNames → ((r : Rule) → r isIn rules → r .head < 2 * length names)
+    → Sound (record { book = loaded-with names rules; own = emptied })
+unfolding inForce inBook
+sound-book names rules few heads =
+    record {
+      few-names = few;
+      heads-known = λ r i. lt-ltb (r .head) (2 * length names) (heads r i);
+      facts-known = λ A h. absurd (true≢false (sym h));
+    }
+
+-- a changed set has no literal but those that it had and the one that is put in
+changed-from : (c : Change) (d : State) → ((A : ℕ) → A ∈ d .own .putIn → A ∈ inBook (d .book)) → literalIn c ∈ inBook (d .book)
+    → (B : ℕ) → B ∈ changedSet c (d .own .putIn) → B ∈ inBook (d .book)
+changed-from (PutIn A) d known i B h = ⊎-elim (λ q. rw (eqb-true B A q) i) (known B) (or-elim (eqb B A) (d .own .putIn B) h)
+changed-from (TakeOut A) d known i B h = known B (and-l (d .own .putIn B) (not (eqb B A)) (sym (without-at A (d .own .putIn) B) ∙ h))
+
+pub sound-change : (c : Change) (d : State) → Sound d → Sound (record { book = d .book; own = ownAfter d c })
+unfolding changeSays inForce
+sound-change c d s = go (changeSays d c) refl
+  where
+    go : (said : Said Ack) → changeSays d c ≡ said → Sound (record { book = d .book; own = unlessRefused said (changed c (d .own)) (d .own) })
+    go (gives x) e =
+        record {
+          few-names = s .few-names;
+          heads-known = s .heads-known;
+          facts-known = changed-from c d (s .facts-known) (given-inside (d .book) (literalIn c) _ x e .1);
+        }
+    go (refused n) e = s
+
+-- ---- the program
+
+module _ (d : State) (s : Sound d) where
+  pub book-in-room : (A : ℕ) → A ∈ inBook (d .book) → A < capacity
+  unfolding inBook
+  book-in-room A i =
+      let h = ltb-true A (2 * length (itsNames (d .book))) i in
+      let few = s .few-names in
+      omega arith
+
+  pub heads-in-book : Heads⊆ (programIn d) (inBook (d .book))
+  unfolding programIn
+  heads-in-book r m = ⊎-elim (s .heads-known r) of-fact (List·Memᴰ·append-cases (itsRules (d .book)) m)
+    where
+      of-fact : r isIn map fact (members capacity (inForce (d .own))) → r .head ∈ inBook (d .book)
+      of-fact i =
+          let w = Memᴰ·of-map fact (members capacity (inForce (d .own))) i in
+          rw (← w .2) (s .facts-known (w .0) (members-are capacity (inForce (d .own)) (w .0) .0 (w .1) .0))
+
+  pub heads-in-room : Heads⊆ (programIn d) room
+  heads-in-room r m = lt-ltb (r .head) capacity (book-in-room (r .head) (heads-in-book r m))

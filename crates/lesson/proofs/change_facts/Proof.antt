@@ -1,0 +1,37 @@
+-- `change_facts`: a refused change returns the lesson, and an accepted one makes its facts and then its model.
+use borrow.Author.Needs.{needs}
+use Rattle.lesson.proofs.Replies.{change-refused, change-room, change-done}
+use Rattle.lesson.proofs.change_facts.Statement.{statement}
+use Rattle.lesson.proofs.change_facts.Tie as tie
+
+change-refusal-requires : tie.Need-change-refusal-requires
+change-refusal-requires c κs = search needs
+
+returns : tie.Need-returns
+returns c = change-refused _ _ _ _ (c .before .change-refusal .ensures) (c .if1 .taken)
+
+changed-facts-requires : tie.Need-changed-facts-requires
+changed-facts-requires c κs = change-room _ _ _ _ (c .before .change-refusal .ensures) (c .if1 .left)
+
+in-force-requires : tie.Need-in-force-requires
+in-force-requires c κs = search needs
+
+model-with-requires : tie.Need-model-with-requires
+model-with-requires c κs = search needs
+
+returns-2 : tie.Need-returns-2
+returns-2 c =
+    let made = c .before .before in
+    change-done _ _ _ _ (made .before .before .change-refusal .ensures) (made .before .if1 .left) (made .changed-facts .result) (c .model-with .result)
+    (made .changed-facts .ensures) _ (c .before .in-force .ensures) (c .model-with .ensures)
+
+pub change-facts-spec : {M : Type 1} → statement M
+change-facts-spec =
+    tie.close
+    (tie.spec
+    change-refusal-requires
+    returns
+    changed-facts-requires
+    in-force-requires
+    model-with-requires
+    returns-2)

@@ -1,0 +1,132 @@
+-- What each call answers and leaves, for every shelf, lesson and argument.
+use mathlib.Core.Path.{_≡_}
+use mathlib.Core.Logic.{_⊎_}
+use mathlib.Core.Bool.{Bool, true, false, cond}
+use Prim.Native.Nat.{ℕ}
+use mathlib.Core.List.{List}
+use lib.Dec.{eqb}
+use Rattle.wfsx.specs.Sets.{Set, ∅}
+use Rattle.wfsx.specs.Program.{Entry, Program}
+use Rattle.wfsx.specs.Model as wfsx
+use Rattle.wfsx.specs.Trees as trees
+use Rattle.litset.specs.Words.{setOf}
+use Rattle.book.specs.Book.{namesOf, rulesOf, programOf}
+use Rattle.book.specs.declared.Book.{Book}
+use Rattle.fixpoint.specs.Result.{ModelOf, verdictIs}
+use Rattle.fixpoint.specs.declared.Model.{Model}
+use Rattle.lesson.specs.State.{BookState, unloaded, loaded-with, Own, emptied, State, inForce, programIn, Said, gives, refused, Ack, acknowledged, changeSays, changed, searchSays, verdictSays, modelSays, setGiven, listingFrom, listingSays, bufferAfter}
+use Rattle.lesson.specs.declared.Shelf.{Shelf}
+use Rattle.lesson.specs.declared.Lesson.{Lesson}
+use Rattle.lesson.specs.declared.Change.{Change}
+use Rattle.lesson.specs.declared.ChangeReply.{ChangeReply}
+use Rattle.lesson.specs.declared.ChangeAnswer.{ChangeAnswer}
+use Rattle.lesson.specs.declared.ChangeAnswer.the-variants as change
+use Rattle.lesson.specs.declared.VerdictAnswer.{VerdictAnswer}
+use Rattle.lesson.specs.declared.VerdictAnswer.the-variants as verdict
+use Rattle.lesson.specs.declared.SearchAnswer.{SearchAnswer}
+use Rattle.lesson.specs.declared.SearchAnswer.the-variants as searched
+use Rattle.lesson.specs.declared.ModelReply.{ModelReply}
+use Rattle.lesson.specs.declared.ModelAnswer.{ModelAnswer}
+use Rattle.lesson.specs.declared.ModelAnswer.the-variants as model
+use Rattle.lesson.specs.declared.ListingAnswer.{ListingAnswer}
+use Rattle.lesson.specs.declared.ListingAnswer.the-variants as listing
+
+-- ---- the meaning of shelf and lesson, whatever their bits
+
+-- `loaded` 0 says that there is no book
+unfoldable pub shelfOf : Shelf → BookState
+shelfOf s = cond (eqb (s .loaded) 0) unloaded (loaded-with (namesOf (s .book)) (rulesOf (s .book)))
+
+unfoldable pub ownOf : Lesson → Own
+ownOf l = record { putIn = setOf (l .facts .words) }
+
+abbrev pub meaningOf : Shelf → Lesson → State
+meaningOf s l = record { book = shelfOf s; own = ownOf l }
+
+-- the sets that stand for M and N
+abbrev pub truthsOf : Lesson → Set
+truthsOf l = setOf (l .model .truths .words)
+
+abbrev pub nonfalseOf : Lesson → Set
+nonfalseOf l = setOf (l .model .nonfalse .words)
+
+-- They are M and N of the lesson's program. (Of a lesson that a list of calls leaves this is a theorem.)
+abbrev pub Standing : Shelf → Lesson → Type 0
+Standing s l = ModelOf (programIn (meaningOf s l)) (l .model)
+
+-- the number under which a call is turned down, or 0
+abbrev pub numberSays : ℕ → Said Ack
+numberSays number = cond (eqb number 0) (gives acknowledged) (refused number)
+
+-- ---- the lesson that begins on a book
+
+pub record Begins (book : Book) (l : Lesson) : Type 0 where
+  pub own-is : ownOf l ≡ emptied
+  pub model-is : ModelOf (programOf book ∅) (l .model)
+
+-- ---- putting in and taking out
+
+-- The model of a lesson made from l, where the facts in force are F and the program is P: it stays where l has the same facts in force, and is worked
+-- out where they are others.
+abbrev pub ModelAfter : Lesson → Set → Program → Model → Type 0
+ModelAfter l F P m = ((F ≡ inForce (ownOf l)) × (m ≡ l .model)) ⊎ ((F ≡ inForce (ownOf l) → ⊥) × ModelOf P m)
+
+abbrev pub changeSaid : ChangeAnswer → Said Ack
+changeSaid change.Done = gives acknowledged
+changeSaid (change.Refused number) = refused number
+
+-- the lesson m has this of its own, and its model is up to date
+pub record ChangesTo (s : Shelf) (l : Lesson) (own : Own) (m : Lesson) : Type 0 where
+  pub own-is : ownOf m ≡ own
+  pub model-is : ModelAfter l (inForce own) (programIn (record { book = shelfOf s; own = own })) (m .model)
+
+-- an accepted call changes what the lesson has of its own, and a refused one leaves the lesson as it was
+abbrev pub LessonAfter : Shelf → Lesson → Own → ChangeAnswer → Lesson → Type 0
+LessonAfter s l own change.Done m = ChangesTo s l own m
+LessonAfter s l own (change.Refused number) m = m ≡ l
+
+pub record Changes (s : Shelf) (l : Lesson) (c : Change) (r : ChangeReply) : Type 0 where
+  pub says : changeSaid (r .answer) ≡ changeSays (meaningOf s l) c
+  pub leaves : LessonAfter s l (changed c (ownOf l)) (r .answer) (r .lesson)
+
+-- ---- verdict, search, model
+
+abbrev pub verdictSaid : VerdictAnswer → Said wfsx.Verdict
+verdictSaid (verdict.Given v) = gives (verdictIs v)
+verdictSaid (verdict.Refused number) = refused number
+
+pub record GivesVerdict (s : Shelf) (l : Lesson) (A : ℕ) (r : VerdictAnswer) : Type 0 where
+  pub says : verdictSaid r ≡ verdictSays (shelfOf s) (truthsOf l) (nonfalseOf l) A
+
+abbrev pub searchSaid : SearchAnswer → Said Bool
+searchSaid (searched.Given holds) = gives holds
+searchSaid (searched.Refused number) = refused number
+
+pub record Searches (s : Shelf) (l : Lesson) (A : ℕ) (k : trees.Tree) (question : Entry) (r : SearchAnswer) : Type 0 where
+  pub says : searchSaid r ≡ searchSays (meaningOf s l) A k question
+
+-- whether the lesson is contradictory
+abbrev pub modelSaid : ModelAnswer → Said Bool
+modelSaid model.Consistent = gives false
+modelSaid model.Contradictory = gives true
+modelSaid (model.Refused number) = refused number
+
+pub record GivesModel (s : Shelf) (l : Lesson) (r : ModelReply) : Type 0 where
+  pub says : modelSaid (r .answer) ≡ modelSays (shelfOf s) (truthsOf l)
+  pub truths : setOf (r .model .truths .words) ≡ setGiven (shelfOf s) (truthsOf l)
+  pub nonfalse : setOf (r .model .nonfalse .words) ≡ setGiven (shelfOf s) (nonfalseOf l)
+
+-- ---- listing
+
+abbrev pub listingSaid : ListingAnswer → Said ℕ
+listingSaid (listing.Length n) = gives n
+listingSaid (listing.Refused number) = refused number
+
+-- the bytes that the listing call writes
+abbrev pub bytesOf : Shelf → Lesson → List ℕ
+bytesOf s l = listingFrom (meaningOf s l) (truthsOf l) (nonfalseOf l)
+
+-- `before` and `after` are the bytes of the lent buffer
+pub record Lists (s : Shelf) (l : Lesson) (before : List ℕ) (r : ListingAnswer) (after : List ℕ) : Type 0 where
+  pub says : listingSaid r ≡ listingSays (shelfOf s) (bytesOf s l) before
+  pub buffer : after ≡ bufferAfter (bytesOf s l) before (listingSaid r)

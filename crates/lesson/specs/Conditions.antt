@@ -1,0 +1,40 @@
+-- The conditions of document 01, "When a call is turned down by the state", for each call in their order.
+use mathlib.Core.Path.{_≡_}
+use mathlib.Core.List.{List, [], _∷_}
+use Prim.Native.Nat.{ℕ, _*_, _≤_, _<_}
+use lib.ListN.{length}
+use Rattle.wfsx.specs.Sets.{_∈_, _∉_}
+use Rattle.reader.specs.Conditions.{Row}
+use Rattle.lesson.specs.State.{BookState, unloaded, itsNames, State, inBook, ContradictoryOver, listingIn, literalIn}
+use Rattle.lesson.specs.declared.Change.{Change}
+use Rattle.lesson.specs.declared.Change.the-variants.{PutIn, TakeOut}
+
+-- 20: no book is loaded
+abbrev pub NoBook : State → Type 0
+NoBook d = d .book ≡ unloaded
+
+-- 21: the literal number isn't below twice the count of names
+abbrev pub NotBelow : State → ℕ → Type 0
+NotBelow d A = 2 * length (itsNames (d .book)) ≤ A
+
+-- 22: put in: the literal is put in now. 23: take out: the literal isn't put in now
+abbrev pub changeRow : State → Change → Row
+changeRow d (PutIn A) = (22, A ∈ d .own .putIn)
+changeRow d (TakeOut A) = (23, A ∉ d .own .putIn)
+
+abbrev pub changeRows : State → Change → List Row
+changeRows d c = (20, NoBook d) ∷ (21, NotBelow d (literalIn c)) ∷ changeRow d c ∷ []
+
+-- 24: the lesson is contradictory
+abbrev pub verdictRows : State → ℕ → List Row
+verdictRows d A = (20, NoBook d) ∷ (21, NotBelow d A) ∷ (24, ContradictoryOver (inBook (d .book)) d) ∷ []
+
+abbrev pub searchRows : State → ℕ → List Row
+searchRows d A = (20, NoBook d) ∷ (21, NotBelow d A) ∷ []
+
+abbrev pub modelRows : State → List Row
+modelRows d = (20, NoBook d) ∷ []
+
+-- 25: the lent buffer is shorter than the listing
+abbrev pub listingRows : State → List ℕ → List Row
+listingRows d buffer = (20, NoBook d) ∷ (25, length buffer < length (listingIn d)) ∷ []

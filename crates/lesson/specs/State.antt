@@ -1,0 +1,159 @@
+-- A book or none and the literals put in, as document 01 speaks of them, and what a call answers over them ("When a call is turned down by the state",
+-- "From rules to a model", "From a question to its trees").
+use mathlib.Core.Bool.{Bool, true, false, cond}
+use mathlib.Core.List.{List, [], _++_}
+use Prim.Native.Nat.{ℕ, _*_}
+use lib.Dec.{leb, ltb}
+use lib.ListN.{length, drop}
+use Rattle.wfsx.specs.Sets.{Set, ∅, add}
+use Rattle.wfsx.specs.Program.{Entry, Rule, Program}
+use Rattle.wfsx.specs.Model.{Contradictory, Verdict}
+use Rattle.wfsx.specs.Trees.{Tree, answer}
+use Rattle.litset.specs.Words.{without, clashIn}
+use Rattle.litset.specs.declared.Clash.{Clash}
+use Rattle.litset.specs.declared.Clash.the-variants.{None, Name}
+use Rattle.book.specs.Book.{program}
+use Rattle.fixpoint.specs.Result.{verdictIn}
+use Rattle.lister.specs.Listing.{listingOf, listingBySets}
+use Rattle.lesson.specs.declared.Change.{Change}
+use Rattle.lesson.specs.declared.Change.the-variants.{PutIn, TakeOut}
+
+-- no book, or the names and rules of one
+pub data BookState : Type 0 where
+  unloaded : BookState
+  loaded-with : List (List ℕ) → List Rule → BookState
+
+-- what a lesson has of its own: the literals put in
+pub record Own : Type 0 where
+  pub putIn : Set
+
+abbrev pub emptied : Own
+emptied = record { putIn = ∅ }
+
+-- what shelf and lesson mean, and what a list of calls leaves
+pub record State : Type 0 where
+  pub book : BookState
+  pub own : Own
+
+abbrev pub itsNames : BookState → List (List ℕ)
+itsNames unloaded = []
+itsNames (loaded-with names rules) = names
+
+abbrev pub itsRules : BookState → List Rule
+itsRules unloaded = []
+itsRules (loaded-with names rules) = rules
+
+-- The facts in force are the literals put in. Those put in decide 22 and 23, those in force make the program and are counted by FACTS.
+unfoldable pub inForce : Own → Set
+inForce o = o .putIn
+
+-- the book's rules, and for each fact in force a rule with that head and no body
+unfoldable pub programIn : State → Program
+programIn d = program (itsRules (d .book)) (inForce (d .own))
+
+-- the lesson is contradictory: no partial stable model exists over the literals in the base
+abbrev pub ContradictoryOver : Set → State → Type 0
+ContradictoryOver base d = Contradictory (programIn d) base
+
+-- the listing of document 01
+unfoldable pub listingIn : State → List ℕ
+listingIn d = listingOf (itsNames (d .book)) (itsRules (d .book)) (inForce (d .own))
+
+-- ---- answers
+
+-- A call gives what was asked for, or is turned down by a number.
+pub data Said (X : Type 0) : Type 0 where
+  gives : X → Said X
+  refused : ℕ → Said X
+
+-- 20: no book is loaded
+abbrev pub noneLoaded : BookState → Bool
+noneLoaded unloaded = true
+noneLoaded (loaded-with names rules) = false
+
+unfoldable pub ifLoaded : {X : Type 0} → BookState → Said X → Said X
+ifLoaded b said = cond (noneLoaded b) (refused 20) said
+
+-- a literal number below twice the count of names
+unfoldable pub inBook : BookState → Set
+inBook b A = ltb A (2 * length (itsNames b))
+
+-- the order is 20, 21, then the one that fits the call
+unfoldable pub inOrder : {X : Type 0} → BookState → ℕ → Said X → Said X
+inOrder b A said = ifLoaded b (cond (inBook b A) said (refused 21))
+
+-- ---- putting in and taking out
+
+-- they give nothing but that it was done
+pub data Ack : Type 0 where
+  acknowledged : Ack
+
+abbrev pub literalIn : Change → ℕ
+literalIn (PutIn A) = A
+literalIn (TakeOut A) = A
+
+-- by whether the literal is put in now: then 22 turns putting in down, and otherwise 23 taking out
+abbrev pub changeFits : Change → Bool → Said Ack
+changeFits (PutIn A) now = cond now (refused 22) (gives acknowledged)
+changeFits (TakeOut A) now = cond now (gives acknowledged) (refused 23)
+
+unfoldable pub changeSays : State → Change → Said Ack
+changeSays d c = inOrder (d .book) (literalIn c) (changeFits c (d .own .putIn (literalIn c)))
+
+-- putting in a literal adds it to the set, taking it out removes it
+abbrev pub changedSet : Change → Set → Set
+changedSet (PutIn A) S = add A S
+changedSet (TakeOut A) S = without A S
+
+abbrev pub changed : Change → Own → Own
+changed c o = record { putIn = changedSet c (o .putIn) }
+
+-- a call that meets a condition for turning such calls down changes nothing
+abbrev pub unlessRefused : Said Ack → Own → Own → Own
+unlessRefused (gives x) o before = o
+unlessRefused (refused number) o before = before
+
+-- what a change leaves the lesson, by its arguments alone
+abbrev pub ownAfter : State → Change → Own
+ownAfter d c = unlessRefused (changeSays d c) (changed c (d .own)) (d .own)
+
+-- ---- search
+
+-- 24 never applies to it
+unfoldable pub searchSays : State → ℕ → Tree → Entry → Said Bool
+searchSays d A k question = inOrder (d .book) A (gives (answer (programIn d) k question))
+
+-- ---- verdict, model and listing: by two sets T and U, which stand for M and N
+
+-- 24: the lesson is contradictory, which is read from T
+abbrev pub unlessClash : Clash → Said Verdict → Said Verdict
+unlessClash None said = said
+unlessClash (Name n) said = refused 24
+
+unfoldable pub verdictSays : BookState → Set → Set → ℕ → Said Verdict
+verdictSays b T U A = inOrder b A (unlessClash (clashIn T) (gives (verdictIn T U A)))
+
+-- whether the lesson is contradictory
+abbrev pub isClash : Clash → Bool
+isClash None = false
+isClash (Name n) = true
+
+unfoldable pub modelSays : BookState → Set → Said Bool
+modelSays b T = ifLoaded b (gives (isClash (clashIn T)))
+
+-- a set of the model, where there is a book
+unfoldable pub setGiven : BookState → Set → Set
+setGiven b S = cond (noneLoaded b) ∅ S
+
+-- its bytes
+unfoldable pub listingFrom : State → Set → Set → List ℕ
+listingFrom d T U = listingBySets (itsNames (d .book)) (itsRules (d .book)) (inForce (d .own)) T U
+
+-- The listing call answers the listing's length. 25: the lent buffer is shorter than the listing
+unfoldable pub listingSays : BookState → List ℕ → List ℕ → Said ℕ
+listingSays b bytes buffer = ifLoaded b (cond (leb (length bytes) (length buffer)) (gives (length bytes)) (refused 25))
+
+-- the lent buffer afterwards: the bytes after the listing stay, and a refused call changes none
+abbrev pub bufferAfter : List ℕ → List ℕ → Said ℕ → List ℕ
+bufferAfter bytes buffer (gives n) = bytes ++ drop n buffer
+bufferAfter bytes buffer (refused number) = buffer

@@ -1,0 +1,262 @@
+// The calls on a lesson: each is a function of the shelf with the book, of the lesson beside it and of its arguments, whatever their bits. A call that
+// changes the facts returns its answer and the lesson, and a refused one the lesson that it was given; a call that only reads returns its answer alone.
+ghost use mathlib.Core.Path.{_≡_};
+ghost use Prim.Native.Nat.{_<_};
+ghost use Rattle.litset.specs.Words.{capacity, setOf};
+ghost use Rattle.book.specs.Book.{programOf};
+ghost use Rattle.search.specs.Questions.{treeOf, questionOf};
+ghost use Rattle.lesson.specs.State.{acknowledged, gives, inOrder, inForce, literalIn, changeFits, changeSays, changedSet};
+ghost use Rattle.lesson.specs.Calls.{shelfOf, ownOf, meaningOf, numberSays, Begins, ModelAfter, Changes, GivesVerdict, Searches, GivesModel, Lists};
+use book::Book;
+use fixpoint::Model;
+use fixpoint::Verdict;
+use lister::Written;
+use litset::Clash;
+use litset::LitSet;
+use search::Tree;
+
+// The book, or none: `loaded` 0 says that there is none.
+#[repr(C)]
+pub struct Shelf {
+    pub loaded: u8,
+    pub book: Book,
+}
+
+// A lesson beside its book: the facts put in, and M and N of the book with the facts in force, which stand until another call changes the one or the
+// other.
+#[repr(C)]
+pub struct Lesson {
+    pub facts: LitSet,
+    pub model: Model,
+}
+
+// Putting in and taking out a literal.
+pub enum Change {
+    PutIn(usize),
+    TakeOut(usize),
+}
+
+pub enum ChangeAnswer {
+    Done,
+    Refused(u8),
+}
+
+pub struct ChangeReply {
+    pub answer: ChangeAnswer,
+    pub lesson: Lesson,
+}
+
+pub enum VerdictAnswer {
+    Given(Verdict),
+    Refused(u8),
+}
+
+pub enum SearchAnswer {
+    Given(bool),
+    Refused(u8),
+}
+
+pub enum ModelAnswer {
+    Consistent,
+    Contradictory,
+    Refused(u8),
+}
+
+// M and N, which are empty where the call is refused.
+pub struct ModelReply {
+    pub answer: ModelAnswer,
+    pub model: Model,
+}
+
+pub enum ListingAnswer {
+    Length(usize),
+    Refused(u8),
+}
+
+// ---- the lesson
+
+// The facts in force.
+fn in_force(l: Lesson) -> LitSet
+    ensures { λ r. ⌜ setOf (r .words) ≡ inForce (ownOf l) ⌝ }
+{
+    l.facts
+}
+
+// The lesson that begins on a book: no fact is put in.
+pub fn begin(book: Book) -> Lesson
+    ensures { λ r. ⌜ Begins book r ⌝ }
+{
+    let facts = litset::empty();
+    let model = fixpoint::model_of(book, facts);
+    Lesson { facts, model }
+}
+
+// The model of a book with these facts in force, for a lesson made from l: it is worked out only where they are others than those of l.
+fn model_with(book: Book, l: Lesson, facts: LitSet) -> Model
+    ensures { λ r. ⌜ ModelAfter l (setOf (facts .words)) (programOf book (setOf (facts .words))) r ⌝ }
+{
+    if litset::equal(facts, in_force(l)) {
+        return l.model;
+    }
+    fixpoint::model_of(book, facts)
+}
+
+// 20 or 21, or 0 where neither is met.
+fn state_refusal(s: Shelf, literal: usize) -> u8
+    ensures { λ r. ⌜ numberSays r ≡ inOrder (shelfOf s) literal (gives acknowledged) ⌝ }
+{
+    if s.loaded == 0 {
+        return 20;
+    }
+    let names = book::name_count(s.book);
+    if 2 * names <= literal {
+        return 21;
+    }
+    0
+}
+
+// ---- putting in and taking out
+
+fn literal_in(change: Change) -> usize
+    ensures { λ r. ⌜ r ≡ literalIn change ⌝ }
+{
+    match change {
+        Change::PutIn(literal) => literal,
+        Change::TakeOut(literal) => literal,
+    }
+}
+
+// 22 or 23, by whether the literal is put in now, or 0 where neither is met.
+fn change_fits(change: Change, now_in: bool) -> u8
+    ensures { λ r. ⌜ numberSays r ≡ changeFits change now_in ⌝ }
+{
+    match change {
+        Change::PutIn(_) => if now_in { 22 } else { 0 },
+        Change::TakeOut(_) => if now_in { 0 } else { 23 },
+    }
+}
+
+// The number that turns a change down, or 0.
+fn change_refusal(s: Shelf, l: Lesson, change: Change) -> u8
+    ensures { λ r. ⌜ numberSays r ≡ changeSays (meaningOf s l) change ⌝ }
+{
+    let literal = literal_in(change);
+    let number = state_refusal(s, literal);
+    if number != 0 {
+        return number;
+    }
+    change_fits(change, litset::contains(l.facts, literal))
+}
+
+// The literals put in after a change.
+fn changed_facts(facts: LitSet, change: Change) -> LitSet
+    requires { ⌜ literalIn change < capacity ⌝ }
+    ensures { λ r. ⌜ setOf (r .words) ≡ changedSet change (setOf (facts .words)) ⌝ }
+{
+    match change {
+        Change::PutIn(literal) => litset::insert(facts, literal),
+        Change::TakeOut(literal) => litset::remove(facts, literal),
+    }
+}
+
+// Puts a literal in, or takes it out.
+pub fn change_facts(s: Shelf, l: Lesson, change: Change) -> ChangeReply
+    ensures { λ r. ⌜ Changes s l change r ⌝ }
+{
+    let number = change_refusal(s, l, change);
+    if number != 0 {
+        return ChangeReply {
+            answer: ChangeAnswer::Refused(number),
+            lesson: l,
+        };
+    }
+    let facts = changed_facts(l.facts, change);
+    let mut m = l;
+    m.facts = facts;
+    let model = model_with(s.book, l, in_force(m));
+    m.model = model;
+    ChangeReply {
+        answer: ChangeAnswer::Done,
+        lesson: m,
+    }
+}
+
+// ---- verdict, search, model
+
+// The verdict of a literal.
+pub fn verdict(s: Shelf, l: Lesson, literal: usize) -> VerdictAnswer
+    ensures { λ r. ⌜ GivesVerdict s l literal r ⌝ }
+{
+    let number = state_refusal(s, literal);
+    if number != 0 {
+        return VerdictAnswer::Refused(number);
+    }
+    match litset::lowest_both(l.model.truths) {
+        Clash::Name(_) => {
+            return VerdictAnswer::Refused(24);
+        }
+        Clash::None => {
+            return VerdictAnswer::Given(fixpoint::verdict_of(l.model, literal));
+        }
+    }
+}
+
+// Whether the literal, or `not` of it where `default` says so, has a tree of this kind.
+pub fn search(s: Shelf, l: Lesson, literal: usize, default: bool, tree: Tree) -> SearchAnswer
+    ensures { λ r. ⌜ Searches s l literal (treeOf tree) (questionOf literal default) r ⌝ }
+{
+    let number = state_refusal(s, literal);
+    if number != 0 {
+        return SearchAnswer::Refused(number);
+    }
+    SearchAnswer::Given(search::search(s.book, in_force(l), literal, default, tree))
+}
+
+// M, N, and whether the lesson is contradictory.
+pub fn model(s: Shelf, l: Lesson) -> ModelReply
+    ensures { λ r. ⌜ GivesModel s l r ⌝ }
+{
+    if s.loaded == 0 {
+        return ModelReply {
+            answer: ModelAnswer::Refused(20),
+            model: Model {
+                truths: litset::empty(),
+                nonfalse: litset::empty(),
+            },
+        };
+    }
+    let model = l.model;
+    match litset::lowest_both(model.truths) {
+        Clash::Name(_) => {
+            return ModelReply {
+                answer: ModelAnswer::Contradictory,
+                model,
+            };
+        }
+        Clash::None => {
+            return ModelReply {
+                answer: ModelAnswer::Consistent,
+                model,
+            };
+        }
+    }
+}
+
+// ---- listing
+
+// The listing, into a lent buffer.
+pub fn listing(s: Shelf, l: Lesson, buffer: &mut [u8]) -> ListingAnswer
+    ensures { λ r. ⌜ Lists s l (now (buffer .entry)) r (now (buffer .exit)) ⌝ }
+{
+    if s.loaded == 0 {
+        return ListingAnswer::Refused(20);
+    }
+    match lister::write(s.book, in_force(l), l.model, buffer) {
+        Written::Length(n) => {
+            return ListingAnswer::Length(n);
+        }
+        Written::Short => {
+            return ListingAnswer::Refused(25);
+        }
+    }
+}

@@ -1,0 +1,123 @@
+-- Document 01's number and values for each case of the answers. An exported call answers the numbers of a reply that the call of `desk` or `lesson` may
+-- give; 0 says that it was not turned down.
+use mathlib.Core.Path.{_≡_}
+use mathlib.Core.Bool.{Bool, not, cond}
+use Prim.Native.Nat.{ℕ}
+use lib.Dec.{eqb}
+use Rattle.reader.specs.declared.Answer.{Answer}
+use Rattle.reader.specs.declared.Answer.the-variants.{Accepted, Refused}
+use Rattle.fixpoint.specs.declared.Verdict.the-variants.{True, False, Undefined}
+use Rattle.search.specs.declared.Tree.{Tree}
+use Rattle.lesson.specs.declared.Shelf.{Shelf}
+use Rattle.lesson.specs.declared.ChangeReply as lesson-change
+use Rattle.lesson.specs.declared.ModelReply as lesson-model
+use Rattle.lesson.specs.declared.ChangeAnswer.{ChangeAnswer}
+use Rattle.lesson.specs.declared.ChangeAnswer.the-variants as change
+use Rattle.lesson.specs.declared.VerdictAnswer.{VerdictAnswer}
+use Rattle.lesson.specs.declared.VerdictAnswer.the-variants as verdict
+use Rattle.lesson.specs.declared.SearchAnswer.{SearchAnswer}
+use Rattle.lesson.specs.declared.SearchAnswer.the-variants as searched
+use Rattle.lesson.specs.declared.ModelAnswer.{ModelAnswer}
+use Rattle.lesson.specs.declared.ModelAnswer.the-variants as model
+use Rattle.lesson.specs.declared.ListingAnswer.{ListingAnswer}
+use Rattle.lesson.specs.declared.ListingAnswer.the-variants as listing
+use Rattle.desk.specs.declared.LoadReply as desk-load
+use Rattle.mezhkura.specs.declared.LoadReply.{LoadReply}
+use Rattle.mezhkura.specs.declared.ChangeReply.{ChangeReply}
+use Rattle.mezhkura.specs.declared.VerdictReply.{VerdictReply}
+use Rattle.mezhkura.specs.declared.SearchReply.{SearchReply}
+use Rattle.mezhkura.specs.declared.ModelReply.{ModelReply}
+use Rattle.mezhkura.specs.declared.ListingReply.{ListingReply}
+
+-- ---- load
+
+abbrev pub loadNumber : Answer → ℕ
+loadNumber Accepted = 0
+loadNumber (Refused number line) = number
+
+abbrev pub loadLine : Answer → ℕ
+loadLine Accepted = 0
+loadLine (Refused number line) = line
+
+abbrev pub LoadIn : (desk-load.LoadReply → Type 0) → LoadReply → Type 0
+LoadIn May r = (q : desk-load.LoadReply) × May q × (r .number ≡ loadNumber (q .answer)) × (r .line ≡ loadLine (q .answer)) × (r .desk ≡ q .desk)
+
+-- ---- putting in and taking out
+
+abbrev pub changeNumber : ChangeAnswer → ℕ
+changeNumber change.Done = 0
+changeNumber (change.Refused number) = number
+
+-- the desk afterwards has the shelf that it had
+abbrev pub ChangeIn : Shelf → (lesson-change.ChangeReply → Type 0) → ChangeReply → Type 0
+ChangeIn s May r =
+    (q : lesson-change.ChangeReply) × May q × (r .number ≡ changeNumber (q .answer)) × (r .desk ≡ record { shelf = s; lesson = q .lesson })
+
+-- ---- verdict
+
+abbrev pub verdictNumber : VerdictAnswer → ℕ
+verdictNumber (verdict.Given v) = 0
+verdictNumber (verdict.Refused number) = number
+
+-- false is 0, true is 1, undefined is 2
+abbrev pub verdictValue : VerdictAnswer → ℕ
+verdictValue (verdict.Given False) = 0
+verdictValue (verdict.Given True) = 1
+verdictValue (verdict.Given Undefined) = 2
+verdictValue (verdict.Refused number) = 0
+
+abbrev pub VerdictIn : (VerdictAnswer → Type 0) → VerdictReply → Type 0
+VerdictIn May r = (a : VerdictAnswer) × May a × (r .number ≡ verdictNumber a) × (r .verdict ≡ verdictValue a)
+
+-- ---- search
+
+abbrev pub searchNumber : SearchAnswer → ℕ
+searchNumber (searched.Given holds) = 0
+searchNumber (searched.Refused number) = number
+
+-- yes is 1, no is 0
+abbrev pub searchValue : SearchAnswer → ℕ
+searchValue (searched.Given holds) = cond holds 1 0
+searchValue (searched.Refused number) = 0
+
+-- a flag that is not 0 is set
+abbrev pub isSet : ℕ → Bool
+isSet flag = not (eqb flag 0)
+
+-- 0 is a T-search, every other number a TU-search
+abbrev pub kindOf : ℕ → Tree
+kindOf tree = cond (eqb tree 0) Tree.T Tree.Tu
+
+abbrev pub SearchIn : (SearchAnswer → Type 0) → SearchReply → Type 0
+SearchIn May r = (a : SearchAnswer) × May a × (r .number ≡ searchNumber a) × (r .holds ≡ searchValue a)
+
+-- ---- model
+
+abbrev pub modelNumber : ModelAnswer → ℕ
+modelNumber model.Consistent = 0
+modelNumber model.Contradictory = 0
+modelNumber (model.Refused number) = number
+
+-- 1 where the lesson is contradictory
+abbrev pub modelValue : ModelAnswer → ℕ
+modelValue model.Consistent = 0
+modelValue model.Contradictory = 1
+modelValue (model.Refused number) = 0
+
+abbrev pub ModelIn : (lesson-model.ModelReply → Type 0) → ModelReply → Type 0
+ModelIn May r =
+    (q : lesson-model.ModelReply) × May q × (r .number ≡ modelNumber (q .answer)) × (r .contradictory ≡ modelValue (q .answer))
+    × (r .truths ≡ q .model .truths) × (r .nonfalse ≡ q .model .nonfalse)
+
+-- ---- listing
+
+abbrev pub listingNumber : ListingAnswer → ℕ
+listingNumber (listing.Length n) = 0
+listingNumber (listing.Refused number) = number
+
+abbrev pub listingLength : ListingAnswer → ℕ
+listingLength (listing.Length n) = n
+listingLength (listing.Refused number) = 0
+
+abbrev pub ListingIn : (ListingAnswer → Type 0) → ListingReply → Type 0
+ListingIn May r = (a : ListingAnswer) × May a × (r .number ≡ listingNumber a) × (r .length ≡ listingLength a)

@@ -1,0 +1,292 @@
+// The calls of a desk for Rust and C: structs by value, slices as pointer and length, answers as numbers. Each call answers what the call of `desk` or
+// `lesson` answers, in document 01's numbers; 0 says that it was not turned down.
+ghost use mathlib.Core.Path.{_≡_};
+ghost use Rattle.search.specs.Questions.{treeOf, questionOf};
+ghost use Rattle.lesson.specs.Calls.{Changes, GivesVerdict, Searches, GivesModel, Lists};
+ghost use Rattle.lesson.specs.declared.Change.the-variants.{PutIn, TakeOut};
+ghost use Rattle.desk.specs.Calls.{Fresh, Loads};
+ghost use Rattle.mezhkura.specs.Numbers.{loadNumber, loadLine, changeNumber, verdictNumber, verdictValue, searchNumber, searchValue, modelNumber, modelValue, listingNumber, listingLength, isSet, kindOf, LoadIn, ChangeIn, VerdictIn, SearchIn, ModelIn, ListingIn};
+use desk::Desk;
+use fixpoint::Verdict;
+use lesson::Change;
+use lesson::ChangeAnswer;
+use lesson::ListingAnswer;
+use lesson::ModelAnswer;
+use lesson::SearchAnswer;
+use lesson::VerdictAnswer;
+use litset::LitSet;
+use reader::Answer;
+use search::Tree;
+
+#[repr(C)]
+pub struct LoadReply {
+    pub number: u8,
+    pub line: usize,
+    pub desk: Desk,
+}
+
+#[repr(C)]
+pub struct ChangeReply {
+    pub number: u8,
+    pub desk: Desk,
+}
+
+#[repr(C)]
+pub struct VerdictReply {
+    pub number: u8,
+    pub verdict: u8,
+}
+
+#[repr(C)]
+pub struct SearchReply {
+    pub number: u8,
+    pub holds: u8,
+}
+
+#[repr(C)]
+pub struct ModelReply {
+    pub number: u8,
+    pub contradictory: u8,
+    pub truths: LitSet,
+    pub nonfalse: LitSet,
+}
+
+#[repr(C)]
+pub struct ListingReply {
+    pub number: u8,
+    pub length: usize,
+}
+
+#[no_mangle]
+pub extern "C" fn mezhkura_fresh() -> Desk
+    ensures { λ r. ⌜ Fresh r ⌝ }
+{
+    desk::fresh()
+}
+
+// ---- load
+
+fn load_number(a: Answer) -> u8
+    ensures { λ r. ⌜ r ≡ loadNumber a ⌝ }
+{
+    match a {
+        Answer::Accepted => 0,
+        Answer::Refused { number, line: _ } => number,
+    }
+}
+
+fn load_line(a: Answer) -> usize
+    ensures { λ r. ⌜ r ≡ loadLine a ⌝ }
+{
+    match a {
+        Answer::Accepted => 0,
+        Answer::Refused { number: _, line } => line,
+    }
+}
+
+#[no_mangle]
+pub extern "C" fn mezhkura_load(desk: Desk, file: &[u8]) -> LoadReply
+    ensures { λ r. ⌜ LoadIn (Loads desk (now (file .entry))) r ⌝ }
+{
+    let q = desk::load(desk, file);
+    let answer = q.answer;
+    let after = q.desk;
+    LoadReply {
+        number: load_number(answer),
+        line: load_line(answer),
+        desk: after,
+    }
+}
+
+// ---- putting in and taking out
+
+fn change_number(a: ChangeAnswer) -> u8
+    ensures { λ r. ⌜ r ≡ changeNumber a ⌝ }
+{
+    match a {
+        ChangeAnswer::Done => 0,
+        ChangeAnswer::Refused(number) => number,
+    }
+}
+
+fn changed(desk: Desk, change: Change) -> ChangeReply
+    ensures { λ r. ⌜ ChangeIn (desk .shelf) (Changes (desk .shelf) (desk .lesson) change) r ⌝ }
+{
+    let q = lesson::change_facts(desk.shelf, desk.lesson, change);
+    let answer = q.answer;
+    let lesson = q.lesson;
+    let mut after = desk;
+    after.lesson = lesson;
+    ChangeReply {
+        number: change_number(answer),
+        desk: after,
+    }
+}
+
+#[no_mangle]
+pub extern "C" fn mezhkura_put_in(desk: Desk, literal: usize) -> ChangeReply
+    ensures { λ r. ⌜ ChangeIn (desk .shelf) (Changes (desk .shelf) (desk .lesson) (PutIn literal)) r ⌝ }
+{
+    changed(desk, Change::PutIn(literal))
+}
+
+#[no_mangle]
+pub extern "C" fn mezhkura_take_out(desk: Desk, literal: usize) -> ChangeReply
+    ensures { λ r. ⌜ ChangeIn (desk .shelf) (Changes (desk .shelf) (desk .lesson) (TakeOut literal)) r ⌝ }
+{
+    changed(desk, Change::TakeOut(literal))
+}
+
+// ---- verdict
+
+fn verdict_number(a: VerdictAnswer) -> u8
+    ensures { λ r. ⌜ r ≡ verdictNumber a ⌝ }
+{
+    match a {
+        VerdictAnswer::Given(_) => 0,
+        VerdictAnswer::Refused(number) => number,
+    }
+}
+
+fn verdict_value(a: VerdictAnswer) -> u8
+    ensures { λ r. ⌜ r ≡ verdictValue a ⌝ }
+{
+    match a {
+        VerdictAnswer::Given(v) => match v {
+            Verdict::False => 0,
+            Verdict::True => 1,
+            Verdict::Undefined => 2,
+        },
+        VerdictAnswer::Refused(_) => 0,
+    }
+}
+
+#[no_mangle]
+pub extern "C" fn mezhkura_verdict(desk: Desk, literal: usize) -> VerdictReply
+    ensures { λ r. ⌜ VerdictIn (GivesVerdict (desk .shelf) (desk .lesson) literal) r ⌝ }
+{
+    let answer = lesson::verdict(desk.shelf, desk.lesson, literal);
+    VerdictReply {
+        number: verdict_number(answer),
+        verdict: verdict_value(answer),
+    }
+}
+
+// ---- search
+
+fn search_number(a: SearchAnswer) -> u8
+    ensures { λ r. ⌜ r ≡ searchNumber a ⌝ }
+{
+    match a {
+        SearchAnswer::Given(_) => 0,
+        SearchAnswer::Refused(number) => number,
+    }
+}
+
+fn search_value(a: SearchAnswer) -> u8
+    ensures { λ r. ⌜ r ≡ searchValue a ⌝ }
+{
+    match a {
+        SearchAnswer::Given(holds) => if holds { 1 } else { 0 },
+        SearchAnswer::Refused(_) => 0,
+    }
+}
+
+fn is_set(flag: u8) -> bool
+    ensures { λ r. ⌜ r ≡ isSet flag ⌝ }
+{
+    flag != 0
+}
+
+fn kind_of(tree: u8) -> Tree
+    ensures { λ r. ⌜ r ≡ kindOf tree ⌝ }
+{
+    if tree == 0 { Tree::T } else { Tree::Tu }
+}
+
+// `not` stands before the literal where `default` is not 0; a T-search where `tree` is 0, a TU-search otherwise.
+#[no_mangle]
+pub extern "C" fn mezhkura_search(desk: Desk, literal: usize, default: u8, tree: u8) -> SearchReply
+    ensures { λ r. ⌜ SearchIn (Searches (desk .shelf) (desk .lesson) literal (treeOf (kindOf tree)) (questionOf literal (isSet default))) r ⌝ }
+{
+    let answer = lesson::search(
+        desk.shelf,
+        desk.lesson,
+        literal,
+        is_set(default),
+        kind_of(tree),
+    );
+    SearchReply {
+        number: search_number(answer),
+        holds: search_value(answer),
+    }
+}
+
+// ---- model
+
+fn model_number(a: ModelAnswer) -> u8
+    ensures { λ r. ⌜ r ≡ modelNumber a ⌝ }
+{
+    match a {
+        ModelAnswer::Consistent => 0,
+        ModelAnswer::Contradictory => 0,
+        ModelAnswer::Refused(number) => number,
+    }
+}
+
+fn model_value(a: ModelAnswer) -> u8
+    ensures { λ r. ⌜ r ≡ modelValue a ⌝ }
+{
+    match a {
+        ModelAnswer::Consistent => 0,
+        ModelAnswer::Contradictory => 1,
+        ModelAnswer::Refused(_) => 0,
+    }
+}
+
+#[no_mangle]
+pub extern "C" fn mezhkura_model(desk: Desk) -> ModelReply
+    ensures { λ r. ⌜ ModelIn (GivesModel (desk .shelf) (desk .lesson)) r ⌝ }
+{
+    let q = lesson::model(desk.shelf, desk.lesson);
+    let answer = q.answer;
+    let truths = q.model.truths;
+    let nonfalse = q.model.nonfalse;
+    ModelReply {
+        number: model_number(answer),
+        contradictory: model_value(answer),
+        truths,
+        nonfalse,
+    }
+}
+
+// ---- listing
+
+fn listing_number(a: ListingAnswer) -> u8
+    ensures { λ r. ⌜ r ≡ listingNumber a ⌝ }
+{
+    match a {
+        ListingAnswer::Length(_) => 0,
+        ListingAnswer::Refused(number) => number,
+    }
+}
+
+fn listing_length(a: ListingAnswer) -> usize
+    ensures { λ r. ⌜ r ≡ listingLength a ⌝ }
+{
+    match a {
+        ListingAnswer::Length(n) => n,
+        ListingAnswer::Refused(_) => 0,
+    }
+}
+
+#[no_mangle]
+pub extern "C" fn mezhkura_listing(desk: Desk, buffer: &mut [u8]) -> ListingReply
+    ensures { λ r. ⌜ ListingIn (λ a. Lists (desk .shelf) (desk .lesson) (now (buffer .entry)) a (now (buffer .exit))) r ⌝ }
+{
+    let answer = lesson::listing(desk.shelf, desk.lesson, buffer);
+    ListingReply {
+        number: listing_number(answer),
+        length: listing_length(answer),
+    }
+}
