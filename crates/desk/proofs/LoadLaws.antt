@@ -23,7 +23,7 @@ use Rattle.lesson.specs.Calls.{shelfOf, Standing}
 use Rattle.lesson.specs.declared.Shelf.{Shelf}
 use Rattle.lesson.proofs.Meaning.{shelf-empty, shelf-loaded}
 use Rattle.lesson.proofs.Sound.{Sound, sound-nothing, sound-book}
-use Rattle.lesson.proofs.Standing.{begin-empty, begin-loaded}
+use Rattle.lesson.proofs.Standing.{own-begins, begin-empty, begin-loaded}
 use Rattle.lesson.proofs.Exists.{begin-exists}
 use Rattle.desk.specs.Calls.{stateOf, Begun, Fresh, LoadsAs}
 use Rattle.desk.specs.Runs.{load, nothing, reads, specOf}
@@ -34,7 +34,7 @@ use Rattle.desk.proofs.Laws.{Good, DeskLaws}
 -- ---- a desk whose lesson begins
 
 begun-means : (loaded : ℕ) (b : Book) (k : Desk) → Begun loaded b k → _≡_ {A = State} (stateOf k) (record { book = shelfOf (record { loaded = loaded; book = b }); own = emptied })
-begun-means loaded b k h = rw (h .shelf-is, h .lesson-begins .own-is) refl
+begun-means loaded b k h = rw (h .shelf-is, own-begins b (k .lesson) (h .lesson-begins)) refl
 
 some : _≡_ {A = ℕ} 1 0 → ⊥
 some e = omega arith

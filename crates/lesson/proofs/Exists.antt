@@ -29,7 +29,6 @@ use Rattle.lesson.specs.declared.ModelAnswer.{ModelAnswer}
 use Rattle.lesson.specs.declared.ModelAnswer.the-variants as model
 use Rattle.lesson.specs.declared.ListingAnswer.{ListingAnswer}
 use Rattle.lesson.specs.declared.ListingAnswer.the-variants as listing
-use Rattle.lesson.proofs.Replies.{begins}
 
 abbrev none : LitSet
 none = record { words = replicate nWords 0 }
@@ -37,7 +36,7 @@ none = record { words = replicate nWords 0 }
 pub begin-exists : (b : Book) → (l : Lesson) × Begins b l
 begin-exists b =
     let m = model-exists (programOf b (setOf (none .words))) (program-heads b (setOf (none .words))) in
-    (record { facts = none; model = m .0 }, begins b none (m .0) (set-zeros nWords) (m .1))
+    (record { facts = none; model = m .0 }, record { none-put-in = set-zeros nWords; model-is = m .1 })
 
 verdict-for : (said : Said wfsx.Verdict) → (a : VerdictAnswer) × (verdictSaid a ≡ said)
 verdict-for (gives wfsx.is-true) = (verdict.Given True, refl)

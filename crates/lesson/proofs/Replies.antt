@@ -17,7 +17,6 @@ use Rattle.litset.proofs.Words.{with-room}
 use Rattle.litset.specs.declared.Clash.{Clash}
 use Rattle.litset.specs.declared.Clash.the-variants as clash
 use Rattle.book.specs.Book.{programOf}
-use Rattle.book.specs.declared.Book.{Book}
 use Rattle.fixpoint.specs.Result.{ModelOf, verdictIs, verdictIn}
 use Rattle.fixpoint.specs.declared.Model.{Model}
 use Rattle.fixpoint.specs.declared.Verdict.{Verdict}
@@ -28,8 +27,8 @@ use Rattle.lister.specs.declared.Written.{Written}
 use Rattle.lister.specs.declared.Written.the-variants.{Length, Short}
 use Rattle.lister.proofs.Calls.{was-written, was-short}
 use Rattle.lister.proofs.Lines.{listing-room}
-use Rattle.lesson.specs.State.{BookState, Own, emptied, itsNames, itsRules, inForce, programIn, Said, gives, refused, Ack, acknowledged, noneLoaded, ifLoaded, inOrder, literalIn, changeFits, changeSays, changedSet, changed, searchSays, unlessClash, verdictSays, isClash, modelSays, setGiven, listingFrom, listingSays, bufferAfter}
-use Rattle.lesson.specs.Calls.{shelfOf, ownOf, meaningOf, truthsOf, nonfalseOf, numberSays, Begins, ModelAfter, changeSaid, Changes, GivesVerdict, Searches, GivesModel, bytesOf, Lists}
+use Rattle.lesson.specs.State.{BookState, Own, itsNames, itsRules, inForce, programIn, Said, gives, refused, Ack, acknowledged, noneLoaded, ifLoaded, inOrder, literalIn, changeFits, changeSays, changedSet, changed, searchSays, unlessClash, verdictSays, isClash, modelSays, setGiven, listingFrom, listingSays, bufferAfter}
+use Rattle.lesson.specs.Calls.{shelfOf, ownOf, meaningOf, truthsOf, nonfalseOf, numberSays, ModelAfter, changeSaid, Changes, GivesVerdict, Searches, GivesModel, bytesOf, Lists}
 use Rattle.lesson.specs.declared.Shelf.{Shelf}
 use Rattle.lesson.specs.declared.Lesson.{Lesson}
 use Rattle.lesson.specs.declared.Change.{Change}
@@ -48,13 +47,9 @@ pub force-is : (l : Lesson) → setOf (l .facts .words) ≡ inForce (ownOf l)
 unfolding inForce ownOf
 force-is l = refl
 
-own-with : (l : Lesson) (F : Set) → setOf (l .facts .words) ≡ F → ownOf l ≡ record { putIn = F }
+pub own-with : (l : Lesson) (F : Set) → setOf (l .facts .words) ≡ F → ownOf l ≡ record { putIn = F }
 unfolding ownOf
 own-with l F e = ap (λ (S : Set). record { putIn = S }) e
-
-pub begins : (book : Book) (facts : LitSet) (m : Model) → setOf (facts .words) ≡ ∅ → ModelOf (programOf book (setOf (facts .words))) m
-    → Begins book (record { facts = facts; model = m })
-begins book facts m none is = record { own-is = own-with (record { facts = facts; model = m }) ∅ none; model-is = rw none at is }
 
 -- ---- putting in and taking out
 

@@ -8,6 +8,7 @@ use Rattle.wfsx.specs.Sets.{Set, ∅}
 use Rattle.wfsx.specs.Program.{Rule, Program}
 use Rattle.wfsx.specs.Model.{M, N}
 use Rattle.book.specs.Book.{rulesOf, program, programOf}
+use Rattle.book.specs.declared.Book.{Book}
 use Rattle.book.proofs.Heads.{program-of}
 use Rattle.fixpoint.specs.Result.{ModelOf}
 use Rattle.lister.specs.Listing.{listingOf}
@@ -20,6 +21,7 @@ use Rattle.lesson.specs.declared.Change.{Change}
 use Rattle.lesson.specs.declared.ChangeReply.{ChangeReply}
 use Rattle.lesson.specs.declared.ChangeAnswer.{ChangeAnswer}
 use Rattle.lesson.specs.declared.ChangeAnswer.the-variants as change
+use Rattle.lesson.proofs.Replies.{own-with}
 use Rattle.lesson.proofs.Meaning.{shelf-empty, loaded-is, program-is}
 
 -- the program looks at the facts in force alone
@@ -27,9 +29,12 @@ program-by : (b : BookState) (o p : Own) → inForce o ≡ inForce p → program
 unfolding programIn
 program-by b o p e = ap (program (itsRules b)) e
 
+pub own-begins : (b : Book) (l : Lesson) → Begins b l → ownOf l ≡ emptied
+own-begins b l h = own-with l ∅ (h .none-put-in)
+
 module _ (s : Shelf) (l : Lesson) (begins : Begins (s .book) l) where
   begin-stands : programOf (s .book) ∅ ≡ programIn (record { book = shelfOf s; own = emptied }) → Standing s l
-  begin-stands same = rw (begins .own-is) (rw same at (begins .model-is))
+  begin-stands same = rw (own-begins (s .book) l begins) (rw same at (rw (begins .none-put-in) at (begins .model-is)))
 
   -- on a shelf with a book, and on one without a book or a rule
   pub begin-loaded : (s .loaded ≡ 0 → ⊥) → Standing s l

@@ -14,7 +14,7 @@ use Rattle.book.specs.Book.{namesOf, rulesOf, programOf}
 use Rattle.book.specs.declared.Book.{Book}
 use Rattle.fixpoint.specs.Result.{ModelOf, verdictIs}
 use Rattle.fixpoint.specs.declared.Model.{Model}
-use Rattle.lesson.specs.State.{BookState, unloaded, loaded-with, Own, emptied, State, inForce, programIn, Said, gives, refused, Ack, acknowledged, changeSays, changed, searchSays, verdictSays, modelSays, setGiven, listingFrom, listingSays, bufferAfter}
+use Rattle.lesson.specs.State.{BookState, unloaded, loaded-with, Own, State, inForce, programIn, Said, gives, refused, Ack, acknowledged, changeSays, changed, searchSays, verdictSays, modelSays, setGiven, listingFrom, listingSays, bufferAfter}
 use Rattle.lesson.specs.declared.Shelf.{Shelf}
 use Rattle.lesson.specs.declared.Lesson.{Lesson}
 use Rattle.lesson.specs.declared.Change.{Change}
@@ -60,9 +60,10 @@ numberSays number = cond (eqb number 0) (gives acknowledged) (refused number)
 
 -- ---- the lesson that begins on a book
 
+-- nothing is put in, and the model is that of the book
 pub record Begins (book : Book) (l : Lesson) : Type 0 where
-  pub own-is : ownOf l ≡ emptied
-  pub model-is : ModelOf (programOf book ∅) (l .model)
+  pub none-put-in : setOf (l .facts .words) ≡ ∅
+  pub model-is : ModelOf (programOf book (setOf (l .facts .words))) (l .model)
 
 -- ---- putting in and taking out
 

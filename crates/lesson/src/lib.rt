@@ -95,7 +95,8 @@ pub fn begin(book: Book) -> Lesson
 fn model_with(book: Book, l: Lesson, facts: LitSet) -> Model
     ensures { λ r. ⌜ ModelAfter l (setOf (facts .words)) (programOf book (setOf (facts .words))) r ⌝ }
 {
-    if litset::equal(facts, in_force(l)) {
+    let before = in_force(l);
+    if litset::equal(facts, before) {
         return l.model;
     }
     fixpoint::model_of(book, facts)
@@ -209,7 +210,8 @@ pub fn search(s: Shelf, l: Lesson, literal: usize, default: bool, tree: Tree) ->
     if number != 0 {
         return SearchAnswer::Refused(number);
     }
-    SearchAnswer::Given(search::search(s.book, in_force(l), literal, default, tree))
+    let holds = search::search(s.book, in_force(l), literal, default, tree);
+    SearchAnswer::Given(holds)
 }
 
 // M, N, and whether the lesson is contradictory.
