@@ -3,13 +3,14 @@
 
 use crate::answer::{Model, Question, Refused, Tree, Verdict};
 use crate::gen::Call;
-use crate::second::{self, Lesson, Program};
+use crate::second::{self, Desk, Program};
 use crate::shrink::shortest_calls;
 use std::fmt;
 use std::ops::AddAssign;
 
-/// The calls of a lesson, as the comparison makes them.
-pub trait Desk {
+/// The calls that both implementations answer, as the comparison makes them on the desk that it holds
+/// against the second implementation's.
+pub trait Calls {
     fn load(&mut self, file: &[u8]) -> Result<(), Refused>;
     fn put_in(&mut self, literal: usize) -> Result<(), Refused>;
     fn take_out(&mut self, literal: usize) -> Result<(), Refused>;
@@ -17,7 +18,7 @@ pub trait Desk {
     fn search(&self, question: Question) -> Result<bool, Refused>;
     fn model(&self) -> Result<Model, Refused>;
     fn listing(&self, buffer: &mut [u8]) -> Result<usize, Refused>;
-    /// The book and the facts as bytes, whatever their form: a refused call leaves them.
+    /// All that the desk holds, as bytes in whatever form: a refused call leaves every one of them.
     fn state(&self) -> Vec<u8>;
 }
 
@@ -47,8 +48,8 @@ impl AddAssign for Asked {
 
 /// What was asked after a list of calls on which the two desks agree, or a list whose last call they
 /// answer differently. The other desk is a fresh one.
-pub fn agree(calls: &[Call], other: &mut dyn Desk) -> Result<Asked, Vec<Call>> {
-    let mut second = Lesson::fresh();
+pub fn agree(calls: &[Call], other: &mut dyn Calls) -> Result<Asked, Vec<Call>> {
+    let mut second = Desk::fresh();
     if let Some((place, _)) = first_difference(calls, &mut second, other) {
         return Err(calls[..=place].to_vec());
     }
@@ -58,8 +59,8 @@ pub fn agree(calls: &[Call], other: &mut dyn Desk) -> Result<Asked, Vec<Call>> {
 /// The place of the first call of a list whose answers differ, with the answers, or nothing.
 fn first_difference(
     calls: &[Call],
-    second: &mut Lesson,
-    other: &mut dyn Desk,
+    second: &mut Desk,
+    other: &mut dyn Calls,
 ) -> Option<(usize, String)> {
     calls.iter().enumerate().find_map(|(place, call)| {
         let (ours, theirs) = both(call, second, other);
@@ -74,13 +75,13 @@ fn first_difference(
 
 /// A short list of calls that shows a difference, with its difference, ready to print. The list given
 /// has a call that is answered differently, so that trying a shorter list takes no other questions.
-pub fn explain<D: Desk>(calls: Vec<Call>, fresh: impl Fn() -> D) -> String {
-    let differs = |calls: &[Call]| first_difference(calls, &mut Lesson::fresh(), &mut fresh());
+pub fn explain<D: Calls>(calls: Vec<Call>, fresh: impl Fn() -> D) -> String {
+    let differs = |calls: &[Call]| first_difference(calls, &mut Desk::fresh(), &mut fresh());
     let short = shortest_calls(calls, &mut |calls| differs(calls).is_some());
     let (place, answers) = differs(&short).expect("the short list shows it too");
     let calls: String = short.iter().map(|call| format!("  {call:?}\n")).collect();
     let call = &short[place];
-    format!("call {place} ({call:?}): {answers}\nin these calls on a fresh lesson:\n{calls}")
+    format!("call {place} ({call:?}): {answers}\nin these calls on a fresh desk:\n{calls}")
 }
 
 /// What a desk answers to a call, as text that holds every part of the answer.
@@ -104,16 +105,16 @@ fn told<T: fmt::Debug>(answer: Result<T, Refused>) -> Told {
 }
 
 /// What both desks answer to a call. A desk that changes by a refused call tells that too.
-fn both(call: &Call, second: &mut Lesson, other: &mut dyn Desk) -> (Told, Told) {
+fn both(call: &Call, second: &mut Desk, other: &mut dyn Calls) -> (Told, Told) {
     let before = other.state();
     let (ours, mut theirs) = both_answers(call, second, other);
     if theirs.refused && other.state() != before {
-        theirs.text += ", and the lesson changed";
+        theirs.text += ", and the desk changed";
     }
     (ours, theirs)
 }
 
-fn both_answers(call: &Call, second: &mut Lesson, other: &mut dyn Desk) -> (Told, Told) {
+fn both_answers(call: &Call, second: &mut Desk, other: &mut dyn Calls) -> (Told, Told) {
     match call {
         Call::Load(file) => (told(second.load(file)), told(other.load(file))),
         Call::PutIn(l) => (told(second.put_in(*l)), told(other.put_in(*l))),
@@ -127,7 +128,7 @@ fn both_answers(call: &Call, second: &mut Lesson, other: &mut dyn Desk) -> (Told
 
 /// What the second implementation says to a question: what M and N say, and its walk beside them where
 /// that ends and says otherwise.
-fn second_search(question: Question, second: &Lesson) -> Told {
+fn second_search(question: Question, second: &Desk) -> Told {
     let by_model = second
         .model()
         .map(|model| answer_by_model(question, &model));
@@ -142,7 +143,7 @@ fn second_search(question: Question, second: &Lesson) -> Told {
 }
 
 /// Both listings, with every byte of the lent buffers.
-fn both_listings(margin: isize, second: &Lesson, other: &dyn Desk) -> (Told, Told) {
+fn both_listings(margin: isize, second: &Desk, other: &dyn Calls) -> (Told, Told) {
     let due = second.listing(&mut [0; 8192]).unwrap_or(40);
     let length = due.saturating_add_signed(margin);
     let mut ours = vec![UNTOUCHED; length];
@@ -156,7 +157,7 @@ fn both_listings(margin: isize, second: &Lesson, other: &dyn Desk) -> (Told, Tol
 
 /// What was asked after a list (model, listing, and every literal's four searches against M and N), or a
 /// call that is answered differently.
-fn agree_at_the_end(second: &Lesson, other: &mut dyn Desk) -> Result<Asked, Call> {
+fn agree_at_the_end(second: &Desk, other: &mut dyn Calls) -> Result<Asked, Call> {
     let mut copy = second.clone();
     for call in [Call::Model, Call::Listing { margin: 3 }] {
         let (ours, theirs) = both(&call, &mut copy, other);

@@ -22,7 +22,7 @@
 //! ```
 
 use crate::answer::{Model, Question, Refused, Tree, Verdict};
-use crate::compare::Desk;
+use crate::compare::Calls;
 use crate::exports;
 use std::collections::BTreeSet;
 use std::fmt;
@@ -144,7 +144,7 @@ fn members(set: exports::LitSet) -> BTreeSet<usize> {
 }
 
 /// For the comparison.
-impl Desk for Lesson {
+impl Calls for Lesson {
     fn load(&mut self, file: &[u8]) -> Result<(), Refused> {
         Lesson::load(self, file)
     }

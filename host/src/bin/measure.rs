@@ -147,7 +147,7 @@ fn print_calls() {
 fn print_calls_of(sample: &Sample) {
     let (label, file) = (sample.label, &sample.file[..]);
     let mut engine = Lesson::fresh();
-    let mut other = second::Lesson::fresh();
+    let mut other = second::Desk::fresh();
     let load = times_of(
         || engine.load(black_box(file)).expect("the book loads"),
         || other.load(black_box(file)).expect("the book loads"),
