@@ -3,7 +3,7 @@
 #![cfg(feature = "engine")]
 
 use mezhkura::compare::{agree, explain, questions, Asked};
-use mezhkura::engine::Lesson;
+use mezhkura::engine::Desk;
 use mezhkura::gen::{self, Call, Random, FULL, MIDDLE, SMALL};
 use mezhkura::second::read;
 use std::fs;
@@ -21,9 +21,9 @@ fn seed() -> u64 {
 fn compare(label: &str, lists: impl Iterator<Item = Vec<Call>>) -> Asked {
     let mut asked = Asked::default();
     for calls in lists {
-        match agree(&calls, &mut Lesson::fresh()) {
+        match agree(&calls, &mut Desk::fresh()) {
             Ok(more) => asked += more,
-            Err(calls) => panic!("{}", explain(calls, Lesson::fresh)),
+            Err(calls) => panic!("{}", explain(calls, Desk::fresh)),
         }
     }
     println!("{label}: {asked:?}");

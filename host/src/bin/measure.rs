@@ -2,7 +2,7 @@
 //! measure`. It prints the tables of docs/MEASUREMENTS.md.
 
 use mezhkura::answer::{Question, Tree};
-use mezhkura::engine::Lesson;
+use mezhkura::engine::Desk;
 use mezhkura::gen::{self, Random};
 use mezhkura::second;
 use std::env;
@@ -146,7 +146,7 @@ fn print_calls() {
 
 fn print_calls_of(sample: &Sample) {
     let (label, file) = (sample.label, &sample.file[..]);
-    let mut engine = Lesson::fresh();
+    let mut engine = Desk::fresh();
     let mut other = second::Desk::fresh();
     let load = times_of(
         || engine.load(black_box(file)).expect("the book loads"),
@@ -217,8 +217,8 @@ fn print_questions(label: &str, files: &[Vec<u8>]) {
 /// The time of each question T and TU of a book's literals and that of the model call: the least of
 /// five means, in turns.
 fn times_of_questions(file: &[u8]) -> (Vec<(Question, Duration)>, Duration) {
-    let mut lesson = Lesson::fresh();
-    lesson.load(file).expect("the book loads");
+    let mut desk = Desk::fresh();
+    desk.load(file).expect("the book loads");
     let book = second::read(file).expect("the book loads");
     let both = |literal| [Tree::T, Tree::TU].map(|tree| plain(tree, literal));
     let mut times: Vec<_> = (0..book.literals())
@@ -228,10 +228,10 @@ fn times_of_questions(file: &[u8]) -> (Vec<(Question, Duration)>, Duration) {
     let mut model = Duration::MAX;
     for _ in 0..5 {
         for (question, least) in &mut times {
-            let mut ask = || lesson.search(black_box(*question));
+            let mut ask = || desk.search(black_box(*question));
             *least = mean_of(RUNS_OF_A_QUESTION, &mut ask).min(*least);
         }
-        model = mean_of(RUNS_OF_A_CALL, &mut || lesson.model()).min(model);
+        model = mean_of(RUNS_OF_A_CALL, &mut || desk.model()).min(model);
     }
     (times, model)
 }
@@ -260,15 +260,15 @@ fn call_on(call: &str, stack: usize) {
         "deep" => deep_file(),
         _ => full_file(1),
     };
-    let mut lesson = Lesson::fresh();
-    lesson.load(&file).expect("the book loads");
+    let mut desk = Desk::fresh();
+    desk.load(&file).expect("the book loads");
     let mut buffer = vec![0; 8192];
     let work = || match call {
-        "load" => lesson.load(&file),
-        "model" => lesson.model().map(drop),
-        "listing" => lesson.listing(&mut buffer).map(drop),
-        "deep" => lesson.search(plain(Tree::TU, 0)).map(drop),
-        _ => lesson.search(question_named(call)).map(drop),
+        "load" => desk.load(&file),
+        "model" => desk.model().map(drop),
+        "listing" => desk.listing(&mut buffer).map(drop),
+        "deep" => desk.search(plain(Tree::TU, 0)).map(drop),
+        _ => desk.search(question_named(call)).map(drop),
     };
     thread::scope(|scope| {
         let worker = thread::Builder::new()
