@@ -1,5 +1,6 @@
 //! Runs a list of calls on the second implementation and on another desk, asks every question of the
-//! book that the list leaves, and says where the two first differ.
+//! book that the list leaves, and says where the two first differ. Beside that it looks after every call
+//! whether the model is that of the book and the facts, whatever came before.
 
 use crate::answer::{Model, Question, Refused, Tree, Verdict};
 use crate::gen::Call;
@@ -76,12 +77,96 @@ fn first_difference(
 /// A short list of calls that shows a difference, with its difference, ready to print. The list given
 /// has a call that is answered differently, so that trying a shorter list takes no other questions.
 pub fn explain<D: Calls>(calls: Vec<Call>, fresh: impl Fn() -> D) -> String {
-    let differs = |calls: &[Call]| first_difference(calls, &mut Desk::fresh(), &mut fresh());
+    explain_by(calls, |calls| {
+        first_difference(calls, &mut Desk::fresh(), &mut fresh())
+    })
+}
+
+/// The same, where `differs` finds the place of a call and says what is different there.
+fn explain_by(calls: Vec<Call>, differs: impl Fn(&[Call]) -> Option<(usize, String)>) -> String {
     let short = shortest_calls(calls, &mut |calls| differs(calls).is_some());
-    let (place, answers) = differs(&short).expect("the short list shows it too");
+    let (place, difference) = differs(&short).expect("the short list shows it too");
     let calls: String = short.iter().map(|call| format!("  {call:?}\n")).collect();
     let call = &short[place];
-    format!("call {place} ({call:?}): {answers}\nin these calls on a fresh desk:\n{calls}")
+    format!("call {place} ({call:?}): {difference}\nin these calls on a fresh desk:\n{calls}")
+}
+
+/// After how many calls the model was looked at, and how many of these calls were refused.
+#[derive(Clone, Copy, Debug, Default, PartialEq, Eq)]
+pub struct Stood {
+    pub calls: usize,
+    pub refused: usize,
+}
+
+impl AddAssign for Stood {
+    fn add_assign(&mut self, more: Stood) {
+        self.calls += more.calls;
+        self.refused += more.refused;
+    }
+}
+
+/// Looks after every call of a list, a refused one too, whether the model comes from the book and the
+/// facts alone: it is that of the second implementation, and the desk is, bit by bit, a fresh one that
+/// loads the same book and puts in the same facts in another order. Where that isn't so, a short list of
+/// calls that shows it, ready to print.
+pub fn models_stand<D: Calls>(calls: &[Call], fresh: impl Fn() -> D) -> Result<Stood, String> {
+    let looked = |calls: &[Call]| first_model_difference(calls, &fresh);
+    looked(calls).map_err(|_| explain_by(calls.to_vec(), |calls| looked(calls).err()))
+}
+
+/// The same, with the place of the first call after which it isn't so, and what is different there.
+fn first_model_difference<D: Calls>(
+    calls: &[Call],
+    fresh: &impl Fn() -> D,
+) -> Result<Stood, (usize, String)> {
+    let (mut second, mut other) = (Desk::fresh(), fresh());
+    let mut stood = Stood::default();
+    for (place, call) in calls.iter().enumerate() {
+        let (_, theirs) = both_answers(call, &mut second, &mut other);
+        if let Some(difference) = model_difference(&second, &other, fresh) {
+            return Err((place, difference));
+        }
+        stood.calls += 1;
+        stood.refused += usize::from(theirs.refused);
+    }
+    Ok(stood)
+}
+
+/// What is different in the model of a desk that should hold the same book and facts as the second one.
+fn model_difference<D: Calls>(second: &Desk, other: &D, fresh: &impl Fn() -> D) -> Option<String> {
+    let (ours, theirs) = (second.model(), other.model());
+    if ours != theirs {
+        return Some(format!(
+            "then second's model is {ours:?}, the other's is {theirs:?}"
+        ));
+    }
+    // Where there are two facts or more, one of the two orders isn't that of the list.
+    let upwards: Vec<usize> = second.facts().iter().copied().collect();
+    let downwards = upwards.iter().rev().copied().collect();
+    [upwards, downwards].into_iter().find_map(|facts| {
+        let again = desk_with(second, &facts, fresh);
+        let model = again.model();
+        if model != theirs {
+            return Some(format!(
+                "then the model is {theirs:?}, and with facts put in as {facts:?} it is {model:?}"
+            ));
+        }
+        (again.state() != other.state())
+            .then(|| format!("then the desk isn't the one with facts put in as {facts:?}"))
+    })
+}
+
+/// A fresh desk that loads the second one's book and puts in these facts in this order.
+fn desk_with<D: Calls>(second: &Desk, facts: &[usize], fresh: &impl Fn() -> D) -> D {
+    let mut desk = fresh();
+    // A call that is wrongly refused here shows in the desk that it leaves.
+    if let Some(book) = second.book() {
+        let _ = desk.load(book.to_file().as_bytes());
+    }
+    for &fact in facts {
+        let _ = desk.put_in(fact);
+    }
+    desk
 }
 
 /// What a desk answers to a call, as text that holds every part of the answer.

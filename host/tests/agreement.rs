@@ -2,7 +2,8 @@
 //! the comparison of two desks finds wrong ones.
 
 use mezhkura::answer::{Model, Question, Refused, Tree, Verdict};
-use mezhkura::compare::{agree, answer_by_model, explain, questions, Asked, Calls, MOST_VISITS};
+use mezhkura::compare::{agree, answer_by_model, explain, models_stand, questions};
+use mezhkura::compare::{Asked, Calls, Stood, MOST_VISITS};
 use mezhkura::gen::{self, Random, Size, MIDDLE, SMALL};
 use mezhkura::second::{contradictory_name, gamma, search, Book, Desk, Program, Walk};
 use std::collections::BTreeSet;
@@ -184,6 +185,18 @@ fn check_model(program: &Program, file: &str) {
 struct Wrong {
     desk: Desk,
     how: How,
+    /// The literal put in last since a book was loaded, whether or not it was taken out again.
+    last: Option<usize>,
+}
+
+impl Wrong {
+    fn fresh(how: How) -> Wrong {
+        Wrong {
+            desk: Desk::fresh(),
+            how,
+            last: None,
+        }
+    }
 }
 
 #[derive(Clone, Copy, Debug, PartialEq)]
@@ -198,12 +211,15 @@ enum How {
     VerdictOfAContradiction,
     LoadKeepsFacts,
     RefusedPutInTakesOut,
+    TakenOutStaysInTheModel,
+    KeepsTheLastPutIn,
 }
 
 impl Calls for Wrong {
     fn load(&mut self, file: &[u8]) -> Result<(), Refused> {
         let facts = self.desk.facts().clone();
         self.desk.load(file)?;
+        self.last = None;
         if self.how == How::LoadKeepsFacts {
             facts.into_iter().for_each(|fact| {
                 let _ = self.desk.put_in(fact);
@@ -219,7 +235,9 @@ impl Calls for Wrong {
                 let _ = self.desk.take_out(literal);
             }),
             _ => self.desk.put_in(literal),
-        }
+        }?;
+        self.last = Some(literal);
+        Ok(())
     }
 
     fn take_out(&mut self, literal: usize) -> Result<(), Refused> {
@@ -245,14 +263,21 @@ impl Calls for Wrong {
     }
 
     fn model(&self) -> Result<Model, Refused> {
-        if self.how != How::ModelOfTheBookAlone {
-            return self.desk.model();
+        let mut modelled = self.desk.clone();
+        match (self.how, self.last) {
+            (How::ModelOfTheBookAlone, _) => {
+                modelled = Desk::fresh();
+                if let Some(book) = self.desk.book() {
+                    modelled.load(book.to_file().as_bytes())?;
+                }
+            }
+            (How::TakenOutStaysInTheModel, Some(last)) => {
+                // Where the literal wasn't taken out this is refused: that is no matter.
+                let _ = modelled.put_in(last);
+            }
+            _ => {}
         }
-        let mut alone = Desk::fresh();
-        if let Some(book) = self.desk.book() {
-            alone.load(book.to_file().as_bytes())?;
-        }
-        alone.model()
+        modelled.model()
     }
 
     fn listing(&self, buffer: &mut [u8]) -> Result<usize, Refused> {
@@ -271,16 +296,17 @@ impl Calls for Wrong {
     }
 
     fn state(&self) -> Vec<u8> {
-        format!("{:?}", self.desk).into_bytes()
+        let last = match self.how {
+            How::KeepsTheLastPutIn => self.last,
+            _ => None,
+        };
+        format!("{:?} {last:?}", self.desk).into_bytes()
     }
 }
 
 /// What was asked after so many lists of calls, or a list that shows a difference.
 fn random_lists(how: How, lists: usize) -> Result<Asked, String> {
-    let fresh = || Wrong {
-        desk: Desk::fresh(),
-        how,
-    };
+    let fresh = || Wrong::fresh(how);
     let mut random = Random::new(seed() + 2);
     let mut asked = Asked::default();
     for _ in 0..lists {
@@ -312,13 +338,47 @@ fn wrong_desks_are_found_and_explained_in_few_calls() {
         How::VerdictOfAContradiction,
         How::LoadKeepsFacts,
         How::RefusedPutInTakesOut,
+        How::TakenOutStaysInTheModel,
     ] {
-        let Err(text) = random_lists(how, 2_000) else {
-            panic!("{how:?} wasn't found");
-        };
-        println!("{how:?}: {text}");
-        let calls = text.lines().filter(|line| line.starts_with("  ")).count();
-        assert!(calls <= 4, "{how:?} takes {calls} calls:\n{text}");
+        assert_found(how, random_lists(how, 2_000));
+    }
+}
+
+/// A wrong desk is found, and shown in few calls.
+fn assert_found<T>(how: How, looked: Result<T, String>) {
+    let Err(text) = looked else {
+        panic!("{how:?} wasn't found");
+    };
+    println!("{how:?}: {text}");
+    let calls = text.lines().filter(|line| line.starts_with("  ")).count();
+    assert!(calls <= 4, "{how:?} takes {calls} calls:\n{text}");
+}
+
+/// After how many calls of so many lists the model was looked at, or a list after which it doesn't stand.
+fn random_models(how: How, lists: usize) -> Result<Stood, String> {
+    let mut random = Random::new(seed() + 5);
+    let mut stood = Stood::default();
+    for _ in 0..lists {
+        stood += models_stand(&gen::calls(&mut random, SMALL), || Wrong::fresh(how))?;
+    }
+    Ok(stood)
+}
+
+#[test]
+fn models_that_come_from_more_than_book_and_facts_are_found() {
+    let right = random_models(How::NotAtAll, 500).unwrap_or_else(|text| panic!("{text}"));
+    assert!(right.calls > 5_000, "{right:?}");
+    // No answer of a desk shows what it keeps of earlier calls, so only this comparison finds that.
+    assert!(random_lists(How::KeepsTheLastPutIn, 500).is_ok());
+    for how in [
+        How::PutInStoresNothing,
+        How::ModelOfTheBookAlone,
+        How::LoadKeepsFacts,
+        How::RefusedPutInTakesOut,
+        How::TakenOutStaysInTheModel,
+        How::KeepsTheLastPutIn,
+    ] {
+        assert_found(how, random_models(how, 2_000));
     }
 }
 

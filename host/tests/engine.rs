@@ -2,7 +2,7 @@
 //! all questions of the book that it leaves.
 #![cfg(feature = "engine")]
 
-use mezhkura::compare::{agree, explain, questions, Asked};
+use mezhkura::compare::{agree, explain, models_stand, questions, Asked, Stood};
 use mezhkura::engine::Desk;
 use mezhkura::gen::{self, Call, Random, FULL, MIDDLE, SMALL};
 use mezhkura::second::read;
@@ -78,6 +78,31 @@ fn lists_of_calls_agree() {
     assert!(compare("small lists", small).questions > 200_000);
     let middle = (0..2_000).map(|_| gen::calls(&mut random, MIDDLE));
     assert!(compare("middle lists", middle).questions > 40_000);
+}
+
+/// The calls of a list, and then each literal that it puts in taken out again.
+fn and_out_again(mut calls: Vec<Call>) -> Vec<Call> {
+    let put_in = |call: &Call| match call {
+        Call::PutIn(literal) => Some(Call::TakeOut(*literal)),
+        _ => None,
+    };
+    let out: Vec<Call> = calls.iter().filter_map(put_in).collect();
+    calls.extend(out);
+    calls
+}
+
+#[test]
+fn models_stand_whatever_came_before() {
+    let mut random = Random::new(seed() + 6);
+    let mut stood = Stood::default();
+    for (lists, size) in [(3_000, SMALL), (500, MIDDLE), (30, FULL)] {
+        for _ in 0..lists {
+            let calls = and_out_again(gen::calls(&mut random, size));
+            stood += models_stand(&calls, Desk::fresh).unwrap_or_else(|text| panic!("{text}"));
+        }
+    }
+    println!("{stood:?}");
+    assert!(stood.refused > 10_000 && stood.calls > stood.refused + 10_000);
 }
 
 #[test]
