@@ -1,5 +1,5 @@
-//! The engine compared with the second implementation (feature `engine`). Every list of calls ends with
-//! all questions of the book that it leaves.
+//! The engine compared with the second implementation (feature `engine`). A list of calls ends with all
+//! questions of the book that it leaves, or else the model is looked at after each of its calls.
 #![cfg(feature = "engine")]
 
 use mezhkura::compare::{agree, explain, models_stand, questions, Asked, Stood};
