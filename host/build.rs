@@ -16,13 +16,13 @@ fn main() {
             PathBuf::from(package).join("../target/staticlib")
         }
     };
-    let archive = folder.join("libexports.a");
+    let archive = folder.join("libmezhkura.a");
     println!("cargo:rerun-if-changed={}", archive.display());
     assert!(
         archive.exists(),
-        "no {}: run `rt staticlib exports` first",
+        "no {}: run `rt staticlib mezhkura` first",
         archive.display()
     );
     println!("cargo:rustc-link-search=native={}", folder.display());
-    println!("cargo:rustc-link-lib=static=exports");
+    println!("cargo:rustc-link-lib=static=mezhkura");
 }

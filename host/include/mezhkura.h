@@ -1,9 +1,11 @@
-/* The marking engine for C, over the archive libexports.a.
+/* The marking engine for C, over the archive libmezhkura.a.
  *
- * A lesson is a value: a call takes it, and the calls that change it return the lesson after the call. A call
- * that is turned down returns the lesson as it was, and changes no byte of a lent buffer. Every bit pattern of
- * a struct has a meaning, so a call has no condition on its arguments but that pointers and counts belong
- * together.
+ * A desk is a value: a call takes it, and the calls that change it return the desk after the call. A call that
+ * is turned down returns the desk as it was, and changes no byte of a lent buffer. Every bit pattern of a struct
+ * has a meaning, so a call has no condition on its arguments but that pointers and counts belong together.
+ *
+ * A load, and a change of the facts, works out M and N and leaves them in the lesson. Verdict, model and listing
+ * read the sets that the last change or load left there, so a screen of verdicts after one fact costs one model.
  *
  * number: 0 if the call is accepted; 1 to 9 for a refused file; 20 no book is loaded; 21 no such literal; 22 put
  * in now; 23 not put in; 24 contradictory; 25 buffer too short.
@@ -36,23 +38,43 @@ typedef struct {
     uint16_t entries[2048];
 } mezhkura_book;
 
-/* A lesson: whether a book is loaded, the book, and the facts put in. */
+/* M, the literals that are true, and N, those that aren't false. It is written `struct mezhkura_model`, since
+ * the name alone is that of the call. */
+struct mezhkura_model {
+    mezhkura_litset truths;
+    mezhkura_litset nonfalse;
+};
+
+/* The place of one book: 0 in `loaded` says that none is there. */
 typedef struct {
     uint8_t loaded;
     mezhkura_book book;
+} mezhkura_shelf;
+
+/* A lesson beside a book: the facts put in, and M and N of the book with these facts. The sets in `model` are
+ * the engine's own: a caller who writes them gets the verdicts of what was written. */
+typedef struct {
     mezhkura_litset facts;
+    struct mezhkura_model model;
 } mezhkura_lesson;
 
-/* line: that of a refused file, 0 for the whole file. */
+/* A desk: one book on its shelf and one lesson beside it. */
+typedef struct {
+    mezhkura_shelf shelf;
+    mezhkura_lesson lesson;
+} mezhkura_desk;
+
+/* line: that of a refused file, 0 for the whole file. desk: the desk after the call. */
 typedef struct {
     uint8_t number;
     size_t line;
-    mezhkura_lesson lesson;
+    mezhkura_desk desk;
 } mezhkura_load_reply;
 
+/* desk: the desk after the call. */
 typedef struct {
     uint8_t number;
-    mezhkura_lesson lesson;
+    mezhkura_desk desk;
 } mezhkura_change_reply;
 
 enum { MEZHKURA_FALSE = 0, MEZHKURA_TRUE = 1, MEZHKURA_UNDEFINED = 2 };
@@ -84,15 +106,15 @@ typedef struct {
 } mezhkura_listing_reply;
 
 /* Literal 2n is name n, and 2n + 1 its explicit negation ("shown not to be"). */
-mezhkura_lesson mezhkura_fresh(void);
-mezhkura_load_reply mezhkura_load(mezhkura_lesson lesson, const uint8_t *file, size_t file_len);
-mezhkura_change_reply mezhkura_put_in(mezhkura_lesson lesson, size_t literal);
-mezhkura_change_reply mezhkura_take_out(mezhkura_lesson lesson, size_t literal);
-mezhkura_verdict_reply mezhkura_verdict(mezhkura_lesson lesson, size_t literal);
+mezhkura_desk mezhkura_fresh(void);
+mezhkura_load_reply mezhkura_load(mezhkura_desk desk, const uint8_t *file, size_t file_len);
+mezhkura_change_reply mezhkura_put_in(mezhkura_desk desk, size_t literal);
+mezhkura_change_reply mezhkura_take_out(mezhkura_desk desk, size_t literal);
+mezhkura_verdict_reply mezhkura_verdict(mezhkura_desk desk, size_t literal);
 /* is_default: 1 where `~` stands before the literal, else 0. tree: MEZHKURA_T or MEZHKURA_TU. */
-mezhkura_search_reply mezhkura_search(mezhkura_lesson lesson, size_t literal, uint8_t is_default, uint8_t tree);
-mezhkura_model_reply mezhkura_model(mezhkura_lesson lesson);
-mezhkura_listing_reply mezhkura_listing(mezhkura_lesson lesson, uint8_t *buffer, size_t buffer_len);
+mezhkura_search_reply mezhkura_search(mezhkura_desk desk, size_t literal, uint8_t is_default, uint8_t tree);
+mezhkura_model_reply mezhkura_model(mezhkura_desk desk);
+mezhkura_listing_reply mezhkura_listing(mezhkura_desk desk, uint8_t *buffer, size_t buffer_len);
 
 #ifdef __cplusplus
 }

@@ -124,7 +124,7 @@ impl Fault {
     }
 }
 
-/// Why a call was turned down. The lesson and every lent byte are as they were.
+/// Why a call was turned down. The desk and every lent byte are as they were.
 #[derive(Clone, Copy, Debug, PartialEq, Eq)]
 pub enum Refused {
     /// 1 to 9: the file has a fault in this line; line 0 stands for the whole file.

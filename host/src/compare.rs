@@ -1,15 +1,17 @@
 //! Runs a list of calls on the second implementation and on another desk, asks every question of the
-//! book that the list leaves, and says where the two first differ.
+//! book that the list leaves, and says where the two first differ. Beside that it looks after every call
+//! whether the model is that of the book and the facts, whatever came before.
 
 use crate::answer::{Model, Question, Refused, Tree, Verdict};
 use crate::gen::Call;
-use crate::second::{self, Lesson, Program};
+use crate::second::{self, Desk, Program};
 use crate::shrink::shortest_calls;
 use std::fmt;
 use std::ops::AddAssign;
 
-/// The calls of a lesson, as the comparison makes them.
-pub trait Desk {
+/// The calls that both implementations answer, as the comparison makes them on the desk that it holds
+/// against the second implementation's.
+pub trait Calls {
     fn load(&mut self, file: &[u8]) -> Result<(), Refused>;
     fn put_in(&mut self, literal: usize) -> Result<(), Refused>;
     fn take_out(&mut self, literal: usize) -> Result<(), Refused>;
@@ -17,7 +19,7 @@ pub trait Desk {
     fn search(&self, question: Question) -> Result<bool, Refused>;
     fn model(&self) -> Result<Model, Refused>;
     fn listing(&self, buffer: &mut [u8]) -> Result<usize, Refused>;
-    /// The book and the facts as bytes, whatever their form: a refused call leaves them.
+    /// All that the desk holds, as bytes in whatever form: a refused call leaves every one of them.
     fn state(&self) -> Vec<u8>;
 }
 
@@ -47,8 +49,8 @@ impl AddAssign for Asked {
 
 /// What was asked after a list of calls on which the two desks agree, or a list whose last call they
 /// answer differently. The other desk is a fresh one.
-pub fn agree(calls: &[Call], other: &mut dyn Desk) -> Result<Asked, Vec<Call>> {
-    let mut second = Lesson::fresh();
+pub fn agree(calls: &[Call], other: &mut dyn Calls) -> Result<Asked, Vec<Call>> {
+    let mut second = Desk::fresh();
     if let Some((place, _)) = first_difference(calls, &mut second, other) {
         return Err(calls[..=place].to_vec());
     }
@@ -58,8 +60,8 @@ pub fn agree(calls: &[Call], other: &mut dyn Desk) -> Result<Asked, Vec<Call>> {
 /// The place of the first call of a list whose answers differ, with the answers, or nothing.
 fn first_difference(
     calls: &[Call],
-    second: &mut Lesson,
-    other: &mut dyn Desk,
+    second: &mut Desk,
+    other: &mut dyn Calls,
 ) -> Option<(usize, String)> {
     calls.iter().enumerate().find_map(|(place, call)| {
         let (ours, theirs) = both(call, second, other);
@@ -74,13 +76,97 @@ fn first_difference(
 
 /// A short list of calls that shows a difference, with its difference, ready to print. The list given
 /// has a call that is answered differently, so that trying a shorter list takes no other questions.
-pub fn explain<D: Desk>(calls: Vec<Call>, fresh: impl Fn() -> D) -> String {
-    let differs = |calls: &[Call]| first_difference(calls, &mut Lesson::fresh(), &mut fresh());
+pub fn explain<D: Calls>(calls: Vec<Call>, fresh: impl Fn() -> D) -> String {
+    explain_by(calls, |calls| {
+        first_difference(calls, &mut Desk::fresh(), &mut fresh())
+    })
+}
+
+/// The same, where `differs` finds the place of a call and says what is different there.
+fn explain_by(calls: Vec<Call>, differs: impl Fn(&[Call]) -> Option<(usize, String)>) -> String {
     let short = shortest_calls(calls, &mut |calls| differs(calls).is_some());
-    let (place, answers) = differs(&short).expect("the short list shows it too");
+    let (place, difference) = differs(&short).expect("the short list shows it too");
     let calls: String = short.iter().map(|call| format!("  {call:?}\n")).collect();
     let call = &short[place];
-    format!("call {place} ({call:?}): {answers}\nin these calls on a fresh lesson:\n{calls}")
+    format!("call {place} ({call:?}): {difference}\nin these calls on a fresh desk:\n{calls}")
+}
+
+/// After how many calls the model was looked at, and how many of these calls were refused.
+#[derive(Clone, Copy, Debug, Default, PartialEq, Eq)]
+pub struct Stood {
+    pub calls: usize,
+    pub refused: usize,
+}
+
+impl AddAssign for Stood {
+    fn add_assign(&mut self, more: Stood) {
+        self.calls += more.calls;
+        self.refused += more.refused;
+    }
+}
+
+/// Looks after every call of a list, a refused one too, whether the model comes from the book and the
+/// facts alone: it is that of the second implementation, and the desk is, bit by bit, a fresh one that
+/// loads the same book and puts in the same facts in another order. Where that isn't so, a short list of
+/// calls that shows it, ready to print.
+pub fn models_stand<D: Calls>(calls: &[Call], fresh: impl Fn() -> D) -> Result<Stood, String> {
+    let looked = |calls: &[Call]| first_model_difference(calls, &fresh);
+    looked(calls).map_err(|_| explain_by(calls.to_vec(), |calls| looked(calls).err()))
+}
+
+/// The same, with the place of the first call after which it isn't so, and what is different there.
+fn first_model_difference<D: Calls>(
+    calls: &[Call],
+    fresh: &impl Fn() -> D,
+) -> Result<Stood, (usize, String)> {
+    let (mut second, mut other) = (Desk::fresh(), fresh());
+    let mut stood = Stood::default();
+    for (place, call) in calls.iter().enumerate() {
+        let (_, theirs) = both_answers(call, &mut second, &mut other);
+        if let Some(difference) = model_difference(&second, &other, fresh) {
+            return Err((place, difference));
+        }
+        stood.calls += 1;
+        stood.refused += usize::from(theirs.refused);
+    }
+    Ok(stood)
+}
+
+/// What is different in the model of a desk that should hold the same book and facts as the second one.
+fn model_difference<D: Calls>(second: &Desk, other: &D, fresh: &impl Fn() -> D) -> Option<String> {
+    let (ours, theirs) = (second.model(), other.model());
+    if ours != theirs {
+        return Some(format!(
+            "then second's model is {ours:?}, the other's is {theirs:?}"
+        ));
+    }
+    // Where there are two facts or more, one of the two orders isn't that of the list.
+    let upwards: Vec<usize> = second.facts().iter().copied().collect();
+    let downwards = upwards.iter().rev().copied().collect();
+    [upwards, downwards].into_iter().find_map(|facts| {
+        let again = desk_with(second, &facts, fresh);
+        let model = again.model();
+        if model != theirs {
+            return Some(format!(
+                "then the model is {theirs:?}, and with facts put in as {facts:?} it is {model:?}"
+            ));
+        }
+        (again.state() != other.state())
+            .then(|| format!("then the desk isn't the one with facts put in as {facts:?}"))
+    })
+}
+
+/// A fresh desk that loads the second one's book and puts in these facts in this order.
+fn desk_with<D: Calls>(second: &Desk, facts: &[usize], fresh: &impl Fn() -> D) -> D {
+    let mut desk = fresh();
+    // A call that is wrongly refused here shows in the desk that it leaves.
+    if let Some(book) = second.book() {
+        let _ = desk.load(book.to_file().as_bytes());
+    }
+    for &fact in facts {
+        let _ = desk.put_in(fact);
+    }
+    desk
 }
 
 /// What a desk answers to a call, as text that holds every part of the answer.
@@ -104,16 +190,16 @@ fn told<T: fmt::Debug>(answer: Result<T, Refused>) -> Told {
 }
 
 /// What both desks answer to a call. A desk that changes by a refused call tells that too.
-fn both(call: &Call, second: &mut Lesson, other: &mut dyn Desk) -> (Told, Told) {
+fn both(call: &Call, second: &mut Desk, other: &mut dyn Calls) -> (Told, Told) {
     let before = other.state();
     let (ours, mut theirs) = both_answers(call, second, other);
     if theirs.refused && other.state() != before {
-        theirs.text += ", and the lesson changed";
+        theirs.text += ", and the desk changed";
     }
     (ours, theirs)
 }
 
-fn both_answers(call: &Call, second: &mut Lesson, other: &mut dyn Desk) -> (Told, Told) {
+fn both_answers(call: &Call, second: &mut Desk, other: &mut dyn Calls) -> (Told, Told) {
     match call {
         Call::Load(file) => (told(second.load(file)), told(other.load(file))),
         Call::PutIn(l) => (told(second.put_in(*l)), told(other.put_in(*l))),
@@ -127,7 +213,7 @@ fn both_answers(call: &Call, second: &mut Lesson, other: &mut dyn Desk) -> (Told
 
 /// What the second implementation says to a question: what M and N say, and its walk beside them where
 /// that ends and says otherwise.
-fn second_search(question: Question, second: &Lesson) -> Told {
+fn second_search(question: Question, second: &Desk) -> Told {
     let by_model = second
         .model()
         .map(|model| answer_by_model(question, &model));
@@ -142,7 +228,7 @@ fn second_search(question: Question, second: &Lesson) -> Told {
 }
 
 /// Both listings, with every byte of the lent buffers.
-fn both_listings(margin: isize, second: &Lesson, other: &dyn Desk) -> (Told, Told) {
+fn both_listings(margin: isize, second: &Desk, other: &dyn Calls) -> (Told, Told) {
     let due = second.listing(&mut [0; 8192]).unwrap_or(40);
     let length = due.saturating_add_signed(margin);
     let mut ours = vec![UNTOUCHED; length];
@@ -156,7 +242,7 @@ fn both_listings(margin: isize, second: &Lesson, other: &dyn Desk) -> (Told, Tol
 
 /// What was asked after a list (model, listing, and every literal's four searches against M and N), or a
 /// call that is answered differently.
-fn agree_at_the_end(second: &Lesson, other: &mut dyn Desk) -> Result<Asked, Call> {
+fn agree_at_the_end(second: &Desk, other: &mut dyn Calls) -> Result<Asked, Call> {
     let mut copy = second.clone();
     for call in [Call::Model, Call::Listing { margin: 3 }] {
         let (ours, theirs) = both(&call, &mut copy, other);

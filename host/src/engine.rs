@@ -2,43 +2,45 @@
 //!
 //! ```
 //! use mezhkura::answer::{Question, Refused, Tree, Verdict};
-//! use mezhkura::engine::Lesson;
+//! use mezhkura::engine::Desk;
 //!
-//! let mut lesson = Lesson::fresh();
-//! lesson.load(b"name,brake_held\nname,may_park\nrule,may_park,brake_held\nend\n")?;
+//! let mut desk = Desk::fresh();
+//! desk.load(b"name,brake_held\nname,may_park\nrule,may_park,brake_held\nend\n")?;
 //!
 //! // Name 0 is `brake_held`: its literals are 0, and 1 for "shown not to be".
-//! lesson.put_in(0)?;
-//! assert_eq!(lesson.verdict(2)?, Verdict::True);
-//! assert_eq!(lesson.put_in(0), Err(Refused::PutInNow));
+//! desk.put_in(0)?;
+//! assert_eq!(desk.verdict(2)?, Verdict::True);
+//! assert_eq!(desk.put_in(0), Err(Refused::PutInNow));
 //!
 //! let question = Question { literal: 2, default: false, tree: Tree::T };
-//! assert!(lesson.search(question)?);
+//! assert!(desk.search(question)?);
 //!
 //! let mut buffer = [0; 200];
-//! let length = lesson.listing(&mut buffer)?;
+//! let length = desk.listing(&mut buffer)?;
 //! assert_eq!(&buffer[..length], b"model,2,1,1\n0,brake_held,true,false\n1,may_park,true,false\n");
 //! # Ok::<(), Refused>(())
 //! ```
 
 use crate::answer::{Model, Question, Refused, Tree, Verdict};
-use crate::compare::Desk;
+use crate::compare::Calls;
 use crate::exports;
 use std::collections::BTreeSet;
 use std::fmt;
 
-/// A lesson: a marking book, once one is loaded, and the facts put in.
+/// A desk: a marking book, once one is loaded, and a lesson beside it.
 ///
-/// A call that is turned down leaves the lesson, and every byte of a lent buffer, as it was.
+/// The lesson is the facts put in, with M and N of the book and these facts. A load and a change of the
+/// facts work M and N out; a verdict, the model call and a listing read them. A call that is turned down
+/// leaves the desk, and every byte of a lent buffer, as it was.
 #[derive(Clone, PartialEq, Eq)]
-pub struct Lesson(Box<exports::Lesson>);
+pub struct Desk(Box<exports::Desk>);
 
 // Safety of the calls below: the exported functions are proved for every argument and every bit pattern
-// of a lesson, read `file` only within its length and write `buffer` only within its length.
-impl Lesson {
-    /// A fresh lesson, with no book and no facts.
-    pub fn fresh() -> Lesson {
-        Lesson(Box::new(unsafe { exports::mezhkura_fresh() }))
+// of a desk, read `file` only within its length and write `buffer` only within its length.
+impl Desk {
+    /// A fresh desk, with no book and no facts.
+    pub fn fresh() -> Desk {
+        Desk(Box::new(unsafe { exports::mezhkura_fresh() }))
     }
 
     /// Makes a marking file's names and rules the book, and empties the facts.
@@ -46,21 +48,21 @@ impl Lesson {
     /// Refused with numbers 1 to 9 and a line.
     pub fn load(&mut self, file: &[u8]) -> Result<(), Refused> {
         let reply = unsafe { exports::mezhkura_load(*self.0, file.as_ptr(), file.len()) };
-        *self.0 = reply.lesson;
+        *self.0 = reply.desk;
         accepted(reply.number, reply.line)
     }
 
     /// Puts in a literal as a fact. Refused with 20, 21 or 22.
     pub fn put_in(&mut self, literal: usize) -> Result<(), Refused> {
         let reply = unsafe { exports::mezhkura_put_in(*self.0, literal) };
-        *self.0 = reply.lesson;
+        *self.0 = reply.desk;
         accepted(reply.number, 0)
     }
 
     /// Takes out a fact. Refused with 20, 21 or 23.
     pub fn take_out(&mut self, literal: usize) -> Result<(), Refused> {
         let reply = unsafe { exports::mezhkura_take_out(*self.0, literal) };
-        *self.0 = reply.lesson;
+        *self.0 = reply.desk;
         accepted(reply.number, 0)
     }
 
@@ -110,13 +112,16 @@ impl Lesson {
     }
 }
 
-impl fmt::Debug for Lesson {
+impl fmt::Debug for Desk {
     fn fmt(&self, f: &mut fmt::Formatter<'_>) -> fmt::Result {
-        f.debug_struct("Lesson")
-            .field("loaded", &(self.0.loaded != 0))
-            .field("names", &self.0.book.names)
-            .field("rules", &self.0.book.rules)
-            .field("facts", &members(self.0.facts))
+        let exports::Desk { shelf, lesson } = &*self.0;
+        f.debug_struct("Desk")
+            .field("loaded", &(shelf.loaded != 0))
+            .field("names", &shelf.book.names)
+            .field("rules", &shelf.book.rules)
+            .field("facts", &members(lesson.facts))
+            .field("truths", &members(lesson.model.truths))
+            .field("nonfalse", &members(lesson.model.nonfalse))
             .finish()
     }
 }
@@ -144,51 +149,90 @@ fn members(set: exports::LitSet) -> BTreeSet<usize> {
 }
 
 /// For the comparison.
-impl Desk for Lesson {
+impl Calls for Desk {
     fn load(&mut self, file: &[u8]) -> Result<(), Refused> {
-        Lesson::load(self, file)
+        Desk::load(self, file)
     }
 
     fn put_in(&mut self, literal: usize) -> Result<(), Refused> {
-        Lesson::put_in(self, literal)
+        Desk::put_in(self, literal)
     }
 
     fn take_out(&mut self, literal: usize) -> Result<(), Refused> {
-        Lesson::take_out(self, literal)
+        Desk::take_out(self, literal)
     }
 
     fn verdict(&self, literal: usize) -> Result<Verdict, Refused> {
-        Lesson::verdict(self, literal)
+        Desk::verdict(self, literal)
     }
 
     fn search(&self, question: Question) -> Result<bool, Refused> {
-        Lesson::search(self, question)
+        Desk::search(self, question)
     }
 
     fn model(&self) -> Result<Model, Refused> {
-        Lesson::model(self)
+        Desk::model(self)
     }
 
     fn listing(&self, buffer: &mut [u8]) -> Result<usize, Refused> {
-        Lesson::listing(self, buffer)
+        Desk::listing(self, buffer)
     }
 
     fn state(&self) -> Vec<u8> {
-        let book = &self.0.book;
-        let mut bytes = vec![self.0.loaded];
-        bytes.extend(book.names.to_le_bytes());
-        bytes.extend(book.rules.to_le_bytes());
-        bytes.extend(book.text);
-        bytes.extend(book.lengths);
-        let tables = book.heads.iter().chain(&book.starts).chain(&book.entries);
+        // Every field is named here, so that none can be added to a desk and forgotten.
+        let exports::Desk { shelf, lesson } = &*self.0;
+        let exports::Shelf { loaded, book } = shelf;
+        let exports::Book {
+            names,
+            rules,
+            text,
+            lengths,
+            heads,
+            starts,
+            entries,
+        } = book;
+        let exports::Lesson { facts, model } = lesson;
+        let exports::Model { truths, nonfalse } = model;
+        let mut bytes = vec![*loaded];
+        bytes.extend(names.to_le_bytes());
+        bytes.extend(rules.to_le_bytes());
+        bytes.extend(text);
+        bytes.extend(lengths);
+        let tables = heads.iter().chain(starts).chain(entries);
         bytes.extend(tables.flat_map(|number| number.to_le_bytes()));
-        bytes.extend(
-            self.0
-                .facts
-                .words
-                .iter()
-                .flat_map(|word| word.to_le_bytes()),
-        );
+        let words = [facts, truths, nonfalse].map(|set| set.words);
+        bytes.extend(words.into_iter().flatten().flat_map(u64::to_le_bytes));
         bytes
+    }
+}
+
+#[cfg(test)]
+mod tests {
+    use super::*;
+
+    /// Sets that no call left show who reads them: verdicts do, a refused call leaves them, and a change
+    /// of the facts works them out.
+    #[test]
+    fn verdicts_are_of_the_sets_that_stand() {
+        let mut desk = Desk::fresh();
+        desk.load(b"name,a\nend\n").expect("the book loads");
+        let loaded = desk.state();
+        assert_eq!(desk.verdict(0), Ok(Verdict::False));
+        desk.0.lesson.model.nonfalse.words[0] = 1;
+        assert_eq!(desk.verdict(0), Ok(Verdict::Undefined));
+        let undefined = desk.state();
+        desk.0.lesson.model.truths.words[0] = 1;
+        assert_eq!(desk.verdict(0), Ok(Verdict::True));
+        let written = desk.state();
+        assert!(loaded != undefined && undefined != written);
+        assert_eq!(desk.put_in(2), Err(Refused::NoSuchLiteral));
+        assert_eq!(desk.take_out(1), Err(Refused::NotPutIn));
+        assert!(desk.load(b"name,a\n").is_err());
+        assert_eq!(desk.state(), written);
+        assert_eq!(desk.put_in(1), Ok(()));
+        assert_eq!(desk.verdict(0), Ok(Verdict::False));
+        assert_eq!(desk.verdict(1), Ok(Verdict::True));
+        assert_eq!(desk.take_out(1), Ok(()));
+        assert_eq!(desk.state(), loaded);
     }
 }

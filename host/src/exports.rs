@@ -1,4 +1,4 @@
-//! The functions of the engine's archive, as the crate `exports` has them.
+//! The functions of the engine's archive, as `crates/mezhkura` has them.
 //!
 //! This is the one file that knows the archive: names, argument order, the layout of structs and the
 //! meaning of numbers. A slice is two arguments, a pointer and a count. No function has a condition on
@@ -26,31 +26,55 @@ pub struct Book {
     pub entries: [u16; 2048],
 }
 
-/// A lesson: whether a book is loaded, the book, and the facts put in.
+/// M, the literals that are true, and N, those that aren't false.
+#[repr(C)]
+#[derive(Clone, Copy, PartialEq, Eq)]
+pub struct Model {
+    pub truths: LitSet,
+    pub nonfalse: LitSet,
+}
+
+/// The place of one book: 0 in `loaded` says that none is there.
+#[repr(C)]
+#[derive(Clone, Copy, PartialEq, Eq)]
+pub struct Shelf {
+    pub loaded: u8,
+    pub book: Book,
+}
+
+/// A lesson beside a book: the facts put in, and M and N of the book with these facts. A load and a
+/// change of the facts work M and N out; they stand until the next one.
 #[repr(C)]
 #[derive(Clone, Copy, PartialEq, Eq)]
 pub struct Lesson {
-    pub loaded: u8,
-    pub book: Book,
     pub facts: LitSet,
+    pub model: Model,
+}
+
+/// A desk: one book on its shelf and one lesson beside it.
+#[repr(C)]
+#[derive(Clone, Copy, PartialEq, Eq)]
+pub struct Desk {
+    pub shelf: Shelf,
+    pub lesson: Lesson,
 }
 
 /// The number of a reply to a call that wasn't turned down.
 pub const ACCEPTED: u8 = 0;
 
-/// The reply to a load. The line is that of a refused file.
+/// The reply to a load: the desk after it. The line is that of a refused file.
 #[repr(C)]
 pub struct LoadReply {
     pub number: u8,
     pub line: usize,
-    pub lesson: Lesson,
+    pub desk: Desk,
 }
 
-/// The reply to putting in and taking out.
+/// The reply to putting in and taking out: the desk after it.
 #[repr(C)]
 pub struct ChangeReply {
     pub number: u8,
-    pub lesson: Lesson,
+    pub desk: Desk,
 }
 
 /// The reply to a verdict: 0 is false, 1 is true, 2 is undefined.
@@ -83,12 +107,16 @@ pub struct ListingReply {
     pub length: usize,
 }
 
-// The sizes that tests/c/lesson.c asserts of the structs of include/mezhkura.h.
+// The sizes that tests/c/desk.c asserts of the structs of include/mezhkura.h.
 const _: () = {
+    assert!(size_of::<LitSet>() == 32);
     assert!(size_of::<Book>() == 8344);
-    assert!(size_of::<Lesson>() == 8384);
-    assert!(size_of::<LoadReply>() == 8400);
-    assert!(size_of::<ChangeReply>() == 8392);
+    assert!(size_of::<Model>() == 64);
+    assert!(size_of::<Shelf>() == 8352);
+    assert!(size_of::<Lesson>() == 96);
+    assert!(size_of::<Desk>() == 8448);
+    assert!(size_of::<LoadReply>() == 8464);
+    assert!(size_of::<ChangeReply>() == 8456);
     assert!(size_of::<VerdictReply>() == 2);
     assert!(size_of::<SearchReply>() == 2);
     assert!(size_of::<ModelReply>() == 72);
@@ -100,12 +128,12 @@ pub const TREE_T: u8 = 0;
 pub const TREE_TU: u8 = 1;
 
 extern "C" {
-    pub fn mezhkura_fresh() -> Lesson;
-    pub fn mezhkura_load(lesson: Lesson, file: *const u8, file_len: usize) -> LoadReply;
-    pub fn mezhkura_put_in(lesson: Lesson, literal: usize) -> ChangeReply;
-    pub fn mezhkura_take_out(lesson: Lesson, literal: usize) -> ChangeReply;
-    pub fn mezhkura_verdict(lesson: Lesson, literal: usize) -> VerdictReply;
-    pub fn mezhkura_search(lesson: Lesson, literal: usize, default: u8, tree: u8) -> SearchReply;
-    pub fn mezhkura_model(lesson: Lesson) -> ModelReply;
-    pub fn mezhkura_listing(lesson: Lesson, buffer: *mut u8, buffer_len: usize) -> ListingReply;
+    pub fn mezhkura_fresh() -> Desk;
+    pub fn mezhkura_load(desk: Desk, file: *const u8, file_len: usize) -> LoadReply;
+    pub fn mezhkura_put_in(desk: Desk, literal: usize) -> ChangeReply;
+    pub fn mezhkura_take_out(desk: Desk, literal: usize) -> ChangeReply;
+    pub fn mezhkura_verdict(desk: Desk, literal: usize) -> VerdictReply;
+    pub fn mezhkura_search(desk: Desk, literal: usize, default: u8, tree: u8) -> SearchReply;
+    pub fn mezhkura_model(desk: Desk) -> ModelReply;
+    pub fn mezhkura_listing(desk: Desk, buffer: *mut u8, buffer_len: usize) -> ListingReply;
 }

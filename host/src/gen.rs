@@ -545,7 +545,7 @@ fn byte_edges() -> impl Iterator<Item = Vec<u8>> {
     })
 }
 
-/// One call on a lesson.
+/// One call on a desk.
 #[derive(Clone, PartialEq, Eq)]
 pub enum Call {
     Load(Vec<u8>),
@@ -577,11 +577,11 @@ impl fmt::Debug for Call {
     }
 }
 
-/// A list of calls on one lesson. Files are small, most of them load, and most literals are the
+/// A list of calls on one desk. Files are small, most of them load, and most literals are the
 /// book's.
 pub fn calls(random: &mut Random, size: Size) -> Vec<Call> {
     let mut calls = Vec::new();
-    // A few lists start with calls on a lesson that has no book.
+    // A few lists start with calls on a desk that has no book.
     if random.chance(7, 8) {
         calls.push(Call::Load(book(random, size).to_file().into_bytes()));
     }

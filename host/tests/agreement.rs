@@ -2,9 +2,10 @@
 //! the comparison of two desks finds wrong ones.
 
 use mezhkura::answer::{Model, Question, Refused, Tree, Verdict};
-use mezhkura::compare::{agree, answer_by_model, explain, questions, Asked, Desk, MOST_VISITS};
+use mezhkura::compare::{agree, answer_by_model, explain, models_stand, questions};
+use mezhkura::compare::{Asked, Calls, Stood, MOST_VISITS};
 use mezhkura::gen::{self, Random, Size, MIDDLE, SMALL};
-use mezhkura::second::{contradictory_name, gamma, search, Book, Lesson, Program, Walk};
+use mezhkura::second::{contradictory_name, gamma, search, Book, Desk, Program, Walk};
 use std::collections::BTreeSet;
 
 /// The seed of the random books; another can be set by hand.
@@ -15,60 +16,58 @@ fn seed() -> u64 {
     }
 }
 
-fn random_lesson(random: &mut Random, size: Size) -> Lesson {
-    let mut lesson = Lesson::fresh();
+fn random_desk(random: &mut Random, size: Size) -> Desk {
+    let mut desk = Desk::fresh();
     let book = gen::book(random, size);
-    lesson
-        .load(book.to_file().as_bytes())
+    desk.load(book.to_file().as_bytes())
         .expect("a generated book loads");
     for _ in 0..random.below(3) {
         // A literal put in twice, or one of a book with no names, is refused: that is no matter.
-        let _ = lesson.put_in(random.below(book.literals()));
+        let _ = desk.put_in(random.below(book.literals()));
     }
-    lesson
+    desk
 }
 
-fn file_of(lesson: &Lesson) -> String {
-    let book = lesson.book().expect("a book is loaded");
-    format!("{}facts {:?}", book.to_file(), lesson.facts())
+fn file_of(desk: &Desk) -> String {
+    let book = desk.book().expect("a book is loaded");
+    format!("{}facts {:?}", book.to_file(), desk.facts())
 }
 
-/// A lesson of a large book with some facts put in.
-fn large_lesson(random: &mut Random, book: &Book) -> Lesson {
-    let mut lesson = Lesson::fresh();
-    lesson
-        .load(book.to_file().as_bytes())
+/// A desk with a large book and some facts put in.
+fn large_desk(random: &mut Random, book: &Book) -> Desk {
+    let mut desk = Desk::fresh();
+    desk.load(book.to_file().as_bytes())
         .expect("a generated book loads");
     for literal in gen::some_literals(random, book) {
         // A literal put in twice is refused: that is no matter.
-        let _ = lesson.put_in(literal);
+        let _ = desk.put_in(literal);
     }
-    lesson
+    desk
 }
 
-/// How the searches of some lessons went.
+/// How the searches of some desks went.
 #[derive(Debug, Default)]
 struct Tally {
-    lessons: usize,
+    desks: usize,
     asked: usize,
     not_ended: usize,
     contradictory: usize,
 }
 
-/// Asks every literal's four questions of some lessons.
-fn searches_of(lessons: impl Iterator<Item = Lesson>, visits: u64) -> Tally {
+/// Asks every literal's four questions of some desks.
+fn searches_of(desks: impl Iterator<Item = Desk>, visits: u64) -> Tally {
     let mut tally = Tally::default();
-    for lesson in lessons {
-        let model = lesson.model().expect("a book is loaded");
-        tally.lessons += 1;
+    for desk in desks {
+        let model = desk.model().expect("a book is loaded");
+        tally.desks += 1;
         tally.contradictory += usize::from(model.contradictory);
-        let literals = lesson.book().map_or(0, |book| book.literals());
+        let literals = desk.book().map_or(0, |book| book.literals());
         for question in (0..literals).flat_map(questions) {
             tally.asked += 1;
-            match lesson.search(question, visits) {
+            match desk.search(question, visits) {
                 Ok(Some(answer)) => {
                     let expected = answer_by_model(question, &model);
-                    assert_eq!(answer, expected, "{question:?} of\n{}", file_of(&lesson));
+                    assert_eq!(answer, expected, "{question:?} of\n{}", file_of(&desk));
                 }
                 Ok(None) => tally.not_ended += 1,
                 Err(refused) => panic!("{question:?} is refused: {refused}"),
@@ -83,7 +82,7 @@ fn searches_of(lessons: impl Iterator<Item = Lesson>, visits: u64) -> Tally {
 fn searches_agree_with_m_and_n() {
     let of_size = |count, size, seed| {
         let mut random = Random::new(seed);
-        searches_of((0..count).map(|_| random_lesson(&mut random, size)), 20_000)
+        searches_of((0..count).map(|_| random_desk(&mut random, size)), 20_000)
     };
     let small = of_size(6_000, SMALL, seed());
     assert!(small.not_ended * 100 < small.asked);
@@ -98,8 +97,8 @@ fn short_searches_of_large_books_agree_with_m_and_n() {
     let mut random = Random::new(seed() + 4);
     let mut books = gen::shaped_books();
     books.extend((0..10).map(|_| gen::full_book(&mut random)));
-    let lessons = books.iter().map(|book| large_lesson(&mut random, book));
-    let tally = searches_of(lessons, MOST_VISITS);
+    let desks = books.iter().map(|book| large_desk(&mut random, book));
+    let tally = searches_of(desks, MOST_VISITS);
     assert!(0 < tally.not_ended && tally.not_ended * 4 < tally.asked * 3);
 }
 
@@ -144,9 +143,9 @@ fn model_is_the_published_one() {
     };
     let mut random = Random::new(seed() + 1);
     for _ in 0..400 {
-        let lesson = random_lesson(&mut random, size);
-        let book = lesson.book().expect("a book is loaded");
-        check_model(&Program::new(book, lesson.facts()), &file_of(&lesson));
+        let desk = random_desk(&mut random, size);
+        let book = desk.book().expect("a book is loaded");
+        check_model(&Program::new(book, desk.facts()), &file_of(&desk));
     }
 }
 
@@ -184,8 +183,20 @@ fn check_model(program: &Program, file: &str) {
 
 /// A desk that is the second implementation, but for one thing that it does wrong.
 struct Wrong {
-    lesson: Lesson,
+    desk: Desk,
     how: How,
+    /// The literal put in last since a book was loaded, whether or not it was taken out again.
+    last: Option<usize>,
+}
+
+impl Wrong {
+    fn fresh(how: How) -> Wrong {
+        Wrong {
+            desk: Desk::fresh(),
+            how,
+            last: None,
+        }
+    }
 }
 
 #[derive(Clone, Copy, Debug, PartialEq)]
@@ -200,15 +211,18 @@ enum How {
     VerdictOfAContradiction,
     LoadKeepsFacts,
     RefusedPutInTakesOut,
+    TakenOutStaysInTheModel,
+    KeepsTheLastPutIn,
 }
 
-impl Desk for Wrong {
+impl Calls for Wrong {
     fn load(&mut self, file: &[u8]) -> Result<(), Refused> {
-        let facts = self.lesson.facts().clone();
-        self.lesson.load(file)?;
+        let facts = self.desk.facts().clone();
+        self.desk.load(file)?;
+        self.last = None;
         if self.how == How::LoadKeepsFacts {
             facts.into_iter().for_each(|fact| {
-                let _ = self.lesson.put_in(fact);
+                let _ = self.desk.put_in(fact);
             });
         }
         Ok(())
@@ -216,20 +230,22 @@ impl Desk for Wrong {
 
     fn put_in(&mut self, literal: usize) -> Result<(), Refused> {
         match self.how {
-            How::PutInStoresNothing => self.lesson.clone().put_in(literal),
-            How::RefusedPutInTakesOut => self.lesson.put_in(literal).inspect_err(|_| {
-                let _ = self.lesson.take_out(literal);
+            How::PutInStoresNothing => self.desk.clone().put_in(literal),
+            How::RefusedPutInTakesOut => self.desk.put_in(literal).inspect_err(|_| {
+                let _ = self.desk.take_out(literal);
             }),
-            _ => self.lesson.put_in(literal),
-        }
+            _ => self.desk.put_in(literal),
+        }?;
+        self.last = Some(literal);
+        Ok(())
     }
 
     fn take_out(&mut self, literal: usize) -> Result<(), Refused> {
-        self.lesson.take_out(literal)
+        self.desk.take_out(literal)
     }
 
     fn verdict(&self, literal: usize) -> Result<Verdict, Refused> {
-        match self.lesson.verdict(literal) {
+        match self.desk.verdict(literal) {
             Err(Refused::Contradictory) if self.how == How::VerdictOfAContradiction => {
                 Ok(Verdict::True)
             }
@@ -238,51 +254,59 @@ impl Desk for Wrong {
     }
 
     fn search(&self, question: Question) -> Result<bool, Refused> {
-        let walk = self.lesson.search(question, MOST_VISITS)?;
+        let walk = self.desk.search(question, MOST_VISITS)?;
         Ok(match (self.how, walk) {
             (How::SearchSaysNo, _) | (How::LongSearchSaysNo, None) => false,
             (_, Some(answer)) => answer,
-            (_, None) => answer_by_model(question, &self.lesson.model()?),
+            (_, None) => answer_by_model(question, &self.desk.model()?),
         })
     }
 
     fn model(&self) -> Result<Model, Refused> {
-        if self.how != How::ModelOfTheBookAlone {
-            return self.lesson.model();
+        let mut modelled = self.desk.clone();
+        match (self.how, self.last) {
+            (How::ModelOfTheBookAlone, _) => {
+                modelled = Desk::fresh();
+                if let Some(book) = self.desk.book() {
+                    modelled.load(book.to_file().as_bytes())?;
+                }
+            }
+            (How::TakenOutStaysInTheModel, Some(last)) => {
+                // Where the literal wasn't taken out this is refused: that is no matter.
+                let _ = modelled.put_in(last);
+            }
+            _ => {}
         }
-        let mut alone = Lesson::fresh();
-        if let Some(book) = self.lesson.book() {
-            alone.load(book.to_file().as_bytes())?;
-        }
-        alone.model()
+        modelled.model()
     }
 
     fn listing(&self, buffer: &mut [u8]) -> Result<usize, Refused> {
         let length = buffer.len();
         match self.how {
-            How::ShortBufferOfALongOne if length > 30 && self.lesson.book().is_some() => {
+            How::ShortBufferOfALongOne if length > 30 && self.desk.book().is_some() => {
                 Err(Refused::BufferTooShort)
             }
             How::WritesPastTheListing => {
-                let written = self.lesson.listing(buffer)?;
+                let written = self.desk.listing(buffer)?;
                 buffer[written..].fill(0);
                 Ok(written)
             }
-            _ => self.lesson.listing(buffer),
+            _ => self.desk.listing(buffer),
         }
     }
 
     fn state(&self) -> Vec<u8> {
-        format!("{:?}", self.lesson).into_bytes()
+        let last = match self.how {
+            How::KeepsTheLastPutIn => self.last,
+            _ => None,
+        };
+        format!("{:?} {last:?}", self.desk).into_bytes()
     }
 }
 
 /// What was asked after so many lists of calls, or a list that shows a difference.
 fn random_lists(how: How, lists: usize) -> Result<Asked, String> {
-    let fresh = || Wrong {
-        lesson: Lesson::fresh(),
-        how,
-    };
+    let fresh = || Wrong::fresh(how);
     let mut random = Random::new(seed() + 2);
     let mut asked = Asked::default();
     for _ in 0..lists {
@@ -314,13 +338,47 @@ fn wrong_desks_are_found_and_explained_in_few_calls() {
         How::VerdictOfAContradiction,
         How::LoadKeepsFacts,
         How::RefusedPutInTakesOut,
+        How::TakenOutStaysInTheModel,
     ] {
-        let Err(text) = random_lists(how, 2_000) else {
-            panic!("{how:?} wasn't found");
-        };
-        println!("{how:?}: {text}");
-        let calls = text.lines().filter(|line| line.starts_with("  ")).count();
-        assert!(calls <= 4, "{how:?} takes {calls} calls:\n{text}");
+        assert_found(how, random_lists(how, 2_000));
+    }
+}
+
+/// A wrong desk is found, and shown in few calls.
+fn assert_found<T>(how: How, looked: Result<T, String>) {
+    let Err(text) = looked else {
+        panic!("{how:?} wasn't found");
+    };
+    println!("{how:?}: {text}");
+    let calls = text.lines().filter(|line| line.starts_with("  ")).count();
+    assert!(calls <= 4, "{how:?} takes {calls} calls:\n{text}");
+}
+
+/// After how many calls of so many lists the model was looked at, or a list after which it doesn't stand.
+fn random_models(how: How, lists: usize) -> Result<Stood, String> {
+    let mut random = Random::new(seed() + 5);
+    let mut stood = Stood::default();
+    for _ in 0..lists {
+        stood += models_stand(&gen::calls(&mut random, SMALL), || Wrong::fresh(how))?;
+    }
+    Ok(stood)
+}
+
+#[test]
+fn models_that_come_from_more_than_book_and_facts_are_found() {
+    let right = random_models(How::NotAtAll, 500).unwrap_or_else(|text| panic!("{text}"));
+    assert!(right.calls > 5_000, "{right:?}");
+    // No answer of a desk shows what it keeps of earlier calls, so only this comparison finds that.
+    assert!(random_lists(How::KeepsTheLastPutIn, 500).is_ok());
+    for how in [
+        How::PutInStoresNothing,
+        How::ModelOfTheBookAlone,
+        How::LoadKeepsFacts,
+        How::RefusedPutInTakesOut,
+        How::TakenOutStaysInTheModel,
+        How::KeepsTheLastPutIn,
+    ] {
+        assert_found(how, random_models(how, 2_000));
     }
 }
 

@@ -1,7 +1,7 @@
 //! The edges that document 01 names under "Run", and every refusal number with its line.
 
 use mezhkura::answer::{Question, Refused, Tree, Verdict};
-use mezhkura::second::{program_output, Lesson};
+use mezhkura::second::{program_output, Desk};
 
 fn declared(names: usize) -> String {
     (0..names).map(|n| format!("name,n{n}\n")).collect()
@@ -113,9 +113,9 @@ fn the_longest_book_loads() {
     }
     file += "end\n";
     assert_eq!(file.len(), 53_508);
-    let mut lesson = Lesson::fresh();
-    assert_eq!(lesson.load(file.as_bytes()), Ok(()));
-    let book = lesson.book().expect("a book is loaded");
+    let mut desk = Desk::fresh();
+    assert_eq!(desk.load(file.as_bytes()), Ok(()));
+    let book = desk.book().expect("a book is loaded");
     assert_eq!((book.names.len(), book.rules.len()), (128, 512));
     assert_eq!(book.body_literals(), 2_048);
 }
@@ -222,10 +222,10 @@ fn number_9_is_given_after_end_and_without_it() {
     assert_refused("name,A\n", 5, 1);
 }
 
-fn lesson(file: &str) -> Lesson {
-    let mut lesson = Lesson::fresh();
-    lesson.load(file.as_bytes()).expect("the file loads");
-    lesson
+fn desk(file: &str) -> Desk {
+    let mut desk = Desk::fresh();
+    desk.load(file.as_bytes()).expect("the file loads");
+    desk
 }
 
 fn question(literal: usize) -> Question {
@@ -238,7 +238,7 @@ fn question(literal: usize) -> Question {
 
 #[test]
 fn number_20_comes_before_21_and_25() {
-    let mut fresh = Lesson::fresh();
+    let mut fresh = Desk::fresh();
     assert_eq!(fresh.put_in(999), Err(Refused::NoBook));
     assert_eq!(fresh.take_out(0), Err(Refused::NoBook));
     assert_eq!(fresh.verdict(0), Err(Refused::NoBook));
@@ -246,25 +246,25 @@ fn number_20_comes_before_21_and_25() {
     assert_eq!(fresh.model(), Err(Refused::NoBook));
     assert_eq!(fresh.listing(&mut []), Err(Refused::NoBook));
     assert!(fresh.load(b"nonsense\n").is_err());
-    assert_eq!(fresh, Lesson::fresh());
+    assert_eq!(fresh, Desk::fresh());
 }
 
 #[test]
 fn number_21_is_given_from_twice_the_names_on() {
     for names in [0, 1, 64, 128] {
-        let mut lesson = lesson(&file_with_names(names));
+        let mut desk = desk(&file_with_names(names));
         let edge = 2 * names;
         if names > 0 {
-            assert_eq!(lesson.verdict(edge - 1), Ok(Verdict::False));
-            assert_eq!(lesson.search(question(edge - 1), 10), Ok(Some(true)));
-            assert_eq!(lesson.put_in(edge - 1), Ok(()));
-            assert_eq!(lesson.take_out(edge - 1), Ok(()));
+            assert_eq!(desk.verdict(edge - 1), Ok(Verdict::False));
+            assert_eq!(desk.search(question(edge - 1), 10), Ok(Some(true)));
+            assert_eq!(desk.put_in(edge - 1), Ok(()));
+            assert_eq!(desk.take_out(edge - 1), Ok(()));
         }
         for literal in [edge, edge + 1, usize::MAX] {
-            assert_eq!(lesson.verdict(literal), Err(Refused::NoSuchLiteral));
-            assert_eq!(lesson.put_in(literal), Err(Refused::NoSuchLiteral));
-            assert_eq!(lesson.take_out(literal), Err(Refused::NoSuchLiteral));
-            let asked = lesson.search(question(literal), 10);
+            assert_eq!(desk.verdict(literal), Err(Refused::NoSuchLiteral));
+            assert_eq!(desk.put_in(literal), Err(Refused::NoSuchLiteral));
+            assert_eq!(desk.take_out(literal), Err(Refused::NoSuchLiteral));
+            let asked = desk.search(question(literal), 10);
             assert_eq!(asked, Err(Refused::NoSuchLiteral));
         }
     }
@@ -272,52 +272,52 @@ fn number_21_is_given_from_twice_the_names_on() {
 
 #[test]
 fn numbers_22_and_23_look_at_what_is_put_in_now() {
-    let mut lesson = lesson("name,a\nrule,a\nend\n");
-    assert_eq!(lesson.take_out(0), Err(Refused::NotPutIn));
-    assert_eq!(lesson.put_in(0), Ok(()));
-    assert_eq!(lesson.put_in(0), Err(Refused::PutInNow));
-    assert_eq!(lesson.put_in(1), Ok(()));
-    assert_eq!(lesson.take_out(0), Ok(()));
-    assert_eq!(lesson.take_out(0), Err(Refused::NotPutIn));
-    assert_eq!(lesson.facts().len(), 1);
+    let mut desk = desk("name,a\nrule,a\nend\n");
+    assert_eq!(desk.take_out(0), Err(Refused::NotPutIn));
+    assert_eq!(desk.put_in(0), Ok(()));
+    assert_eq!(desk.put_in(0), Err(Refused::PutInNow));
+    assert_eq!(desk.put_in(1), Ok(()));
+    assert_eq!(desk.take_out(0), Ok(()));
+    assert_eq!(desk.take_out(0), Err(Refused::NotPutIn));
+    assert_eq!(desk.facts().len(), 1);
 }
 
 #[test]
 fn number_24_is_given_to_a_verdict_after_21_and_to_nothing_else() {
-    let mut lesson = lesson("name,a\nrule,a\nrule,-a\nend\n");
-    assert_eq!(lesson.verdict(2), Err(Refused::NoSuchLiteral));
-    assert_eq!(lesson.verdict(1), Err(Refused::Contradictory));
-    assert_eq!(lesson.search(question(1), 100), Ok(Some(false)));
-    assert!(lesson.model().is_ok_and(|model| model.contradictory));
-    assert_eq!(lesson.put_in(0), Ok(()));
-    assert_eq!(lesson.listing(&mut [0; 40]), Ok(22));
+    let mut desk = desk("name,a\nrule,a\nrule,-a\nend\n");
+    assert_eq!(desk.verdict(2), Err(Refused::NoSuchLiteral));
+    assert_eq!(desk.verdict(1), Err(Refused::Contradictory));
+    assert_eq!(desk.search(question(1), 100), Ok(Some(false)));
+    assert!(desk.model().is_ok_and(|model| model.contradictory));
+    assert_eq!(desk.put_in(0), Ok(()));
+    assert_eq!(desk.listing(&mut [0; 40]), Ok(22));
 }
 
 #[test]
 fn number_25_is_given_to_a_buffer_one_byte_short() {
     for file in ["end\n", "name,a\nend\n", "name,a\nrule,a\nrule,-a\nend\n"] {
-        let lesson = lesson(file);
+        let desk = desk(file);
         let text = program_output(file.as_bytes()).into_bytes();
         let mut exact = vec![7; text.len()];
-        assert_eq!(lesson.listing(&mut exact), Ok(text.len()));
+        assert_eq!(desk.listing(&mut exact), Ok(text.len()));
         assert_eq!(exact, text);
         let mut short = vec![7; text.len() - 1];
-        assert_eq!(lesson.listing(&mut short), Err(Refused::BufferTooShort));
+        assert_eq!(desk.listing(&mut short), Err(Refused::BufferTooShort));
         assert_eq!(short, vec![7; text.len() - 1]);
         let mut long = vec![7; text.len() + 2];
-        assert_eq!(lesson.listing(&mut long), Ok(text.len()));
+        assert_eq!(desk.listing(&mut long), Ok(text.len()));
         assert_eq!(long, [&text[..], &[7, 7]].concat());
     }
 }
 
 #[test]
 fn a_load_empties_the_facts_and_a_refused_one_changes_nothing() {
-    let mut lesson = lesson("name,a\nend\n");
-    lesson.put_in(0).expect("the literal is the book's");
-    let before = lesson.clone();
-    assert!(lesson.load(b"name,b\n").is_err());
-    assert_eq!(lesson, before);
-    assert_eq!(lesson.load(b"name,b\nend\n"), Ok(()));
-    assert!(lesson.facts().is_empty());
-    assert_eq!(lesson.verdict(0), Ok(Verdict::False));
+    let mut desk = desk("name,a\nend\n");
+    desk.put_in(0).expect("the literal is the book's");
+    let before = desk.clone();
+    assert!(desk.load(b"name,b\n").is_err());
+    assert_eq!(desk, before);
+    assert_eq!(desk.load(b"name,b\nend\n"), Ok(()));
+    assert!(desk.facts().is_empty());
+    assert_eq!(desk.verdict(0), Ok(Verdict::False));
 }

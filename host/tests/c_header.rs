@@ -16,7 +16,7 @@ fn compile(more: &[&str]) -> Option<Output> {
     let output = Command::new(&compiler)
         .args(["-std=c11", "-Wall", "-Wextra", "-pedantic", "-Werror", "-I"])
         .arg(package().join("include"))
-        .arg(package().join("tests/c/lesson.c"))
+        .arg(package().join("tests/c/desk.c"))
         .args(more)
         .output();
     match output {
@@ -44,13 +44,13 @@ fn a_c_compiler_accepts_the_header() {
 
 #[test]
 #[cfg_attr(not(feature = "engine"), ignore = "needs the engine's archive")]
-fn a_c_program_runs_a_lesson() {
+fn a_c_program_works_on_a_desk() {
     let folder = match std::env::var_os("MEZHKURA_ARCHIVE_DIR") {
         Some(folder) => PathBuf::from(folder),
         None => package().join("../target/staticlib"),
     };
-    let archive = folder.join("libexports.a");
-    let program = Path::new(env!("CARGO_TARGET_TMPDIR")).join("lesson");
+    let archive = folder.join("libmezhkura.a");
+    let program = Path::new(env!("CARGO_TARGET_TMPDIR")).join("desk");
     let words = [archive.as_path(), Path::new("-o"), program.as_path()]
         .map(|p| p.to_str().expect("a path in UTF-8"));
     let Some(output) = compile(&words) else {
@@ -59,8 +59,8 @@ fn a_c_program_runs_a_lesson() {
     assert_success(&output);
     let run = Command::new(program).output().expect("the program starts");
     assert_success(&run);
-    // Literals 0 and 2 are true: word 0 of M and of N is 1 + 4.
-    let expected = "0 0 22 23\n0 1\n0 1\n0 0 5 5\n0 25\n\
+    // Literals 0 and 2 are true: word 0 of M and of N is 1 + 4. The verdict of the written sets is 2.
+    let expected = "0 0 22 23\n0 1\n0 1\n0 0 5 5\n0 2\n0 25\n\
         model,2,1,1\n0,brake_held,true,false\n1,may_park,true,false\n";
     assert_eq!(String::from_utf8_lossy(&run.stdout), expected);
 }

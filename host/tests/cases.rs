@@ -1,7 +1,7 @@
 //! The short books of document 01, and its readings that lead astray.
 
 use mezhkura::answer::{Question, Refused, Tree, Verdict};
-use mezhkura::second::{gamma, program_output, read, Lesson, Program};
+use mezhkura::second::{gamma, program_output, read, Desk, Program};
 use std::collections::BTreeSet;
 use Verdict::{False, True, Undefined};
 
@@ -20,27 +20,26 @@ end
 const CASE_5: &str = "name,a\nname,b\nrule,a,~b\nrule,b,~a\nrule,-a\nend\n";
 const CASE_6: &str = "name,f\nname,s\nname,d\nrule,f,s\nrule,s,~d\nrule,d,~d\nrule,-s\nend\n";
 
-fn lesson(file: &str) -> Lesson {
-    let mut lesson = Lesson::fresh();
-    lesson.load(file.as_bytes()).expect("the file loads");
-    lesson
+fn desk(file: &str) -> Desk {
+    let mut desk = Desk::fresh();
+    desk.load(file.as_bytes()).expect("the file loads");
+    desk
 }
 
-fn verdicts(lesson: &Lesson) -> Vec<Verdict> {
-    let literals = lesson.book().expect("a book is loaded").literals();
+fn verdicts(desk: &Desk) -> Vec<Verdict> {
+    let literals = desk.book().expect("a book is loaded").literals();
     (0..literals)
-        .map(|literal| lesson.verdict(literal).expect("the lesson has verdicts"))
+        .map(|literal| desk.verdict(literal).expect("the lesson has verdicts"))
         .collect()
 }
 
-fn says(lesson: &Lesson, tree: Tree, literal: usize) -> bool {
+fn says(desk: &Desk, tree: Tree, literal: usize) -> bool {
     let question = Question {
         literal,
         default: false,
         tree,
     };
-    lesson
-        .search(question, 100_000)
+    desk.search(question, 100_000)
         .expect("the literal is the book's")
         .expect("the trees end")
 }
@@ -72,7 +71,7 @@ fn cases_2_3_7_8_9_have_their_verdicts() {
         ),
     ];
     for (file, expected) in cases {
-        assert_eq!(verdicts(&lesson(file)), expected, "{file}");
+        assert_eq!(verdicts(&desk(file)), expected, "{file}");
     }
 }
 
@@ -80,21 +79,21 @@ fn cases_2_3_7_8_9_have_their_verdicts() {
 fn case_4_is_contradictory_and_still_searched() {
     let file = "name,a\nrule,a\nrule,-a\nend\n";
     assert_eq!(program_output(file.as_bytes()), "contradiction,1,2,0,a\n");
-    let lesson = lesson(file);
-    assert_eq!(lesson.verdict(0), Err(Refused::Contradictory));
-    assert!(says(&lesson, Tree::T, 0));
-    assert!(!says(&lesson, Tree::TU, 0));
+    let desk = desk(file);
+    assert_eq!(desk.verdict(0), Err(Refused::Contradictory));
+    assert!(says(&desk, Tree::T, 0));
+    assert!(!says(&desk, Tree::TU, 0));
 }
 
 #[test]
 fn case_5_has_b_true_and_a_false() {
-    assert_eq!(verdicts(&lesson(CASE_5)), [False, True, True, False]);
+    assert_eq!(verdicts(&desk(CASE_5)), [False, True, True, False]);
 }
 
 #[test]
 fn case_6_has_f_and_s_false_and_d_undefined() {
     assert_eq!(
-        verdicts(&lesson(CASE_6)),
+        verdicts(&desk(CASE_6)),
         [False, False, False, True, Undefined, False]
     );
 }
@@ -106,16 +105,16 @@ fn case_10_lists_a_book_of_nothing() {
 
 #[test]
 fn case_11_puts_in_a_fact_and_takes_it_out() {
-    let mut lesson = lesson(CASE_5);
-    assert_eq!(lesson.put_in(0), Ok(()));
-    assert_eq!(lesson.verdict(2), Err(Refused::Contradictory));
+    let mut desk = desk(CASE_5);
+    assert_eq!(desk.put_in(0), Ok(()));
+    assert_eq!(desk.verdict(2), Err(Refused::Contradictory));
     let mut buffer = [0; 64];
-    let length = lesson
+    let length = desk
         .listing(&mut buffer)
         .expect("the buffer is long enough");
     assert_eq!(&buffer[..length], b"contradiction,2,3,1,a\n");
-    assert_eq!(lesson.take_out(0), Ok(()));
-    assert_eq!(verdicts(&lesson), [False, True, True, False]);
+    assert_eq!(desk.take_out(0), Ok(()));
+    assert_eq!(verdicts(&desk), [False, True, True, False]);
 }
 
 #[test]
@@ -136,19 +135,19 @@ fn astray_gamma_in_place_of_gamma_s_loses_b_in_case_5() {
 
 #[test]
 fn astray_without_the_added_leaf_f_of_case_6_isnt_false() {
-    let lesson = lesson(CASE_6);
-    assert!(!says(&lesson, Tree::TU, 0));
-    assert!(!says(&lesson, Tree::TU, 2));
-    assert!(says(&lesson, Tree::TU, 4));
+    let desk = desk(CASE_6);
+    assert!(!says(&desk, Tree::TU, 0));
+    assert!(!says(&desk, Tree::TU, 2));
+    assert!(says(&desk, Tree::TU, 4));
 }
 
 /// `a ← ~a`: the TU-tree for a stands under the T-ancestor a. If that failed it, "not a" would
 /// hold and a would be true.
 #[test]
 fn astray_a_tu_node_isnt_failed_by_a_global_t_ancestor() {
-    let lesson = lesson("name,a\nrule,a,~a\nend\n");
-    assert!(!says(&lesson, Tree::T, 0));
-    assert!(says(&lesson, Tree::TU, 0));
+    let desk = desk("name,a\nrule,a,~a\nend\n");
+    assert!(!says(&desk, Tree::T, 0));
+    assert!(says(&desk, Tree::TU, 0));
 }
 
 #[test]

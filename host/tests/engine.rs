@@ -1,9 +1,9 @@
-//! The engine compared with the second implementation (feature `engine`). Every list of calls ends with
-//! all questions of the book that it leaves.
+//! The engine compared with the second implementation (feature `engine`). A list of calls ends with all
+//! questions of the book that it leaves, or else the model is looked at after each of its calls.
 #![cfg(feature = "engine")]
 
-use mezhkura::compare::{agree, explain, questions, Asked};
-use mezhkura::engine::Lesson;
+use mezhkura::compare::{agree, explain, models_stand, questions, Asked, Stood};
+use mezhkura::engine::Desk;
 use mezhkura::gen::{self, Call, Random, FULL, MIDDLE, SMALL};
 use mezhkura::second::read;
 use std::fs;
@@ -21,9 +21,9 @@ fn seed() -> u64 {
 fn compare(label: &str, lists: impl Iterator<Item = Vec<Call>>) -> Asked {
     let mut asked = Asked::default();
     for calls in lists {
-        match agree(&calls, &mut Lesson::fresh()) {
+        match agree(&calls, &mut Desk::fresh()) {
             Ok(more) => asked += more,
-            Err(calls) => panic!("{}", explain(calls, Lesson::fresh)),
+            Err(calls) => panic!("{}", explain(calls, Desk::fresh)),
         }
     }
     println!("{label}: {asked:?}");
@@ -78,6 +78,31 @@ fn lists_of_calls_agree() {
     assert!(compare("small lists", small).questions > 200_000);
     let middle = (0..2_000).map(|_| gen::calls(&mut random, MIDDLE));
     assert!(compare("middle lists", middle).questions > 40_000);
+}
+
+/// The calls of a list, and then each literal that it puts in taken out again.
+fn and_out_again(mut calls: Vec<Call>) -> Vec<Call> {
+    let put_in = |call: &Call| match call {
+        Call::PutIn(literal) => Some(Call::TakeOut(*literal)),
+        _ => None,
+    };
+    let out: Vec<Call> = calls.iter().filter_map(put_in).collect();
+    calls.extend(out);
+    calls
+}
+
+#[test]
+fn models_stand_whatever_came_before() {
+    let mut random = Random::new(seed() + 6);
+    let mut stood = Stood::default();
+    for (lists, size) in [(3_000, SMALL), (500, MIDDLE), (30, FULL)] {
+        for _ in 0..lists {
+            let calls = and_out_again(gen::calls(&mut random, size));
+            stood += models_stand(&calls, Desk::fresh).unwrap_or_else(|text| panic!("{text}"));
+        }
+    }
+    println!("{stood:?}");
+    assert!(stood.refused > 10_000 && stood.calls > stood.refused + 10_000);
 }
 
 #[test]

@@ -1,6 +1,6 @@
 //! The example books have the listings that stand beside them, and so do the books of the guide.
 
-use mezhkura::second::{program_output, Lesson};
+use mezhkura::second::{program_output, Desk};
 use std::fs;
 use std::path::{Path, PathBuf};
 
@@ -59,18 +59,17 @@ fn blocks(page: &str) -> Vec<Block> {
 
 /// The listing of a book after facts, spelt as in rules, were put in.
 fn listing_with_facts(book: &str, facts: &str) -> String {
-    let mut lesson = Lesson::fresh();
-    lesson.load(book.as_bytes()).expect("the book loads");
+    let mut desk = Desk::fresh();
+    desk.load(book.as_bytes()).expect("the book loads");
     for fact in facts.lines() {
         let name = fact.trim_start_matches('-');
-        let number = lesson.book().and_then(|book| book.number_of(name));
+        let number = desk.book().and_then(|book| book.number_of(name));
         let number = number.unwrap_or_else(|| panic!("{name} is declared"));
-        lesson
-            .put_in(2 * number + usize::from(fact.starts_with('-')))
+        desk.put_in(2 * number + usize::from(fact.starts_with('-')))
             .expect("the fact is put in once");
     }
     let mut buffer = vec![0; 8192];
-    let length = lesson.listing(&mut buffer).expect("the buffer is long");
+    let length = desk.listing(&mut buffer).expect("the buffer is long");
     String::from_utf8(buffer[..length].to_vec()).expect("a listing is ASCII")
 }
 

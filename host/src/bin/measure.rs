@@ -2,7 +2,7 @@
 //! measure`. It prints the tables of docs/MEASUREMENTS.md.
 
 use mezhkura::answer::{Question, Tree};
-use mezhkura::engine::Lesson;
+use mezhkura::engine::Desk;
 use mezhkura::gen::{self, Random};
 use mezhkura::second;
 use std::env;
@@ -91,14 +91,22 @@ const RUNS_OF_A_CALL: Duration = Duration::from_millis(20);
 const RUNS_OF_A_QUESTION: Duration = Duration::from_micros(100);
 
 /// The mean time of a run, over runs that take at least so long together.
+///
+/// The clock is read after 1, 3, 7, 15 runs and so on: reading it takes as long as the shortest calls.
 fn mean_of<R>(together: Duration, work: &mut impl FnMut() -> R) -> Duration {
     let start = Instant::now();
-    let mut runs = 0;
-    while runs == 0 || start.elapsed() < together {
-        black_box(work());
-        runs += 1;
+    let (mut runs, mut more) = (0, 1);
+    loop {
+        for _ in 0..more {
+            black_box(work());
+        }
+        runs += more;
+        let elapsed = start.elapsed();
+        if elapsed >= together {
+            return elapsed / runs;
+        }
+        more *= 2;
     }
-    start.elapsed() / runs
 }
 
 /// The times of one run of each side: the least of five means.
@@ -127,37 +135,42 @@ fn micros(time: Duration) -> f64 {
     time.as_secs_f64() * 1e6
 }
 
+/// A ratio with two decimals, and with four where it is so small that two say nothing.
+fn ratio(above: f64, below: f64) -> String {
+    let ratio = above / below;
+    if ratio < 0.1 {
+        format!("{ratio:.4}")
+    } else {
+        format!("{ratio:.2}")
+    }
+}
+
 fn print_row(label: &str, call: &str, (engine, second): (Duration, Duration)) {
-    println!(
-        "| {label} | {call} | {:.1} | {:.1} | {:.2} |",
-        micros(engine),
-        micros(second),
-        engine.as_secs_f64() / second.as_secs_f64()
-    );
+    let (engine, second) = (micros(engine), micros(second));
+    let ratio = ratio(engine, second);
+    println!("| {label} | {call} | {engine:.2} | {second:.2} | {ratio} |");
 }
 
 fn print_calls() {
     println!("| book | call | engine, µs | second, µs | engine / second |");
     println!("|---|---|---|---|---|");
     for sample in samples() {
-        print_calls_of(&sample);
+        let (mut engine, mut other) = (Desk::fresh(), second::Desk::fresh());
+        let file = &sample.file[..];
+        let load = times_of(
+            || engine.load(black_box(file)).expect("the book loads"),
+            || other.load(black_box(file)).expect("the book loads"),
+        );
+        print_row(sample.label, "load", load);
+        print_readings(sample.label, &engine, &other);
+        print_changes(sample.label, &mut engine, &mut other);
     }
 }
 
-fn print_calls_of(sample: &Sample) {
-    let (label, file) = (sample.label, &sample.file[..]);
-    let mut engine = Lesson::fresh();
-    let mut other = second::Lesson::fresh();
-    let load = times_of(
-        || engine.load(black_box(file)).expect("the book loads"),
-        || other.load(black_box(file)).expect("the book loads"),
-    );
-    print_row(label, "load", load);
-    print_row(
-        label,
-        "model",
-        times_of(|| engine.model(), || other.model()),
-    );
+/// The rows of the calls that change nothing.
+fn print_readings(label: &str, engine: &Desk, other: &second::Desk) {
+    let model = times_of(|| engine.model(), || other.model());
+    print_row(label, "model", model);
     let verdict = times_of(
         || engine.verdict(black_box(0)),
         || other.verdict(black_box(0)),
@@ -169,24 +182,64 @@ fn print_calls_of(sample: &Sample) {
         || other.listing(&mut second_buffer),
     );
     print_row(label, "listing", listing);
-    // A fact that is put in has to be taken out before it can be put in again.
-    let change = times_of(
+}
+
+/// The literal that the rows below put in, and how many verdicts a screen has.
+const FACT: usize = 1;
+const SCREEN: usize = 128;
+
+/// The rows with putting in and taking out. A fact that is put in has to be taken out before it can be put
+/// in again, so an accepted call is measured with its reverse.
+fn print_changes(label: &str, engine: &mut Desk, other: &mut second::Desk) {
+    let change = times_of(|| put_in_and_out(engine), || second_in_and_out(other));
+    print_row(label, "put in and take out", change);
+    let literals = other.book().expect("the book is loaded").literals();
+    let screen: Vec<usize> = (0..SCREEN).map(|place| place % literals).collect();
+    // A lesson that the fact makes contradictory answers 24 to each, which is an answer as well.
+    let verdicts = times_of(
         || {
-            engine.put_in(black_box(1)).expect("the fact is out");
-            engine.take_out(black_box(1)).expect("the fact is in");
+            engine.put_in(black_box(FACT)).expect("the fact is out");
+            for literal in &screen {
+                let _ = black_box(engine.verdict(black_box(*literal)));
+            }
+            engine.take_out(black_box(FACT)).expect("the fact is in");
         },
         || {
-            other.put_in(black_box(1)).expect("the fact is out");
-            other.take_out(black_box(1)).expect("the fact is in");
+            other.put_in(black_box(FACT)).expect("the fact is out");
+            for literal in &screen {
+                let _ = black_box(other.verdict(black_box(*literal)));
+            }
+            other.take_out(black_box(FACT)).expect("the fact is in");
         },
     );
-    print_row(label, "put in and take out", change);
+    let name = format!("put in, {SCREEN} verdicts, take out");
+    print_row(label, &name, verdicts);
+    engine.put_in(FACT).expect("the fact is out");
+    other.put_in(FACT).expect("the fact is out");
+    let refused = times_of(
+        || engine.put_in(black_box(FACT)).expect_err("the fact is in"),
+        || other.put_in(black_box(FACT)).expect_err("the fact is in"),
+    );
+    print_row(label, "put in, refused by 22", refused);
+}
+
+fn put_in_and_out(desk: &mut Desk) {
+    desk.put_in(black_box(FACT)).expect("the fact is out");
+    desk.take_out(black_box(FACT)).expect("the fact is in");
+}
+
+fn second_in_and_out(desk: &mut second::Desk) {
+    desk.put_in(black_box(FACT)).expect("the fact is out");
+    desk.take_out(black_box(FACT)).expect("the fact is in");
 }
 
 fn print_searches() {
     println!();
-    println!("| book | questions | mean, µs | most, µs | model call, µs | mean / model call |");
-    println!("|---|---|---|---|---|---|");
+    println!(
+        "| book | questions | mean, µs | most, µs | model call, µs | mean / model call | change, µs \
+         | mean / change |"
+    );
+    println!("|---|---|---|---|---|---|---|---|");
     for sample in samples().into_iter().chain(other_examples()) {
         print_questions(sample.label, &[sample.file]);
     }
@@ -195,45 +248,61 @@ fn print_searches() {
     print_questions("full: 20 random books, seeds 1 to 20", &full);
 }
 
-/// A row for all questions of some books, beside the model calls of the same books.
+/// A row for all questions of some books, beside the model calls and the changes of the same books.
 fn print_questions(label: &str, files: &[Vec<u8>]) {
-    let (mut times, mut models) = (Vec::new(), Duration::ZERO);
-    for file in files {
-        let (questions, model) = times_of_questions(file);
-        times.extend(questions.into_iter().map(|(_, time)| time));
-        models += model;
-    }
-    let most = times.iter().max().expect("a book has questions");
-    let mean = micros(times.iter().sum()) / times.len() as f64;
-    let model = micros(models) / files.len() as f64;
+    let all: Vec<Times> = files.iter().map(|file| times_of_questions(file)).collect();
+    let of_questions = all.iter().flat_map(|times| &times.questions);
+    let questions: Vec<Duration> = of_questions.map(|(_, time)| *time).collect();
+    let most = micros(*questions.iter().max().expect("a book has questions"));
+    let mean = mean_micros(questions.iter().copied());
+    let model = mean_micros(all.iter().map(|times| times.model));
+    let change = mean_micros(all.iter().map(|times| times.change));
     println!(
-        "| {label} | {} | {mean:.1} | {:.1} | {model:.1} | {:.2} |",
-        times.len(),
-        micros(*most),
-        mean / model
+        "| {label} | {} | {mean:.2} | {most:.2} | {model:.2} | {} | {change:.2} | {} |",
+        questions.len(),
+        ratio(mean, model),
+        ratio(mean, change)
     );
 }
 
-/// The time of each question T and TU of a book's literals and that of the model call: the least of
-/// five means, in turns.
-fn times_of_questions(file: &[u8]) -> (Vec<(Question, Duration)>, Duration) {
-    let mut lesson = Lesson::fresh();
-    lesson.load(file).expect("the book loads");
+fn mean_micros(times: impl ExactSizeIterator<Item = Duration>) -> f64 {
+    let count = times.len() as f64;
+    micros(times.sum()) / count
+}
+
+/// What the questions of a book take, and two calls beside them.
+struct Times {
+    questions: Vec<(Question, Duration)>,
+    /// The model call, which reads the sets that stand.
+    model: Duration,
+    /// Half of putting in and taking out, each of which works the sets out.
+    change: Duration,
+}
+
+/// The time of each question T and TU of a book's literals, and those of the calls beside them: the least
+/// of five means, in turns.
+fn times_of_questions(file: &[u8]) -> Times {
+    let mut desk = Desk::fresh();
+    desk.load(file).expect("the book loads");
     let book = second::read(file).expect("the book loads");
     let both = |literal| [Tree::T, Tree::TU].map(|tree| plain(tree, literal));
-    let mut times: Vec<_> = (0..book.literals())
-        .flat_map(both)
-        .map(|question| (question, Duration::MAX))
-        .collect();
-    let mut model = Duration::MAX;
+    let questions = (0..book.literals()).flat_map(both);
+    let mut times = Times {
+        questions: questions.map(|asked| (asked, Duration::MAX)).collect(),
+        model: Duration::MAX,
+        change: Duration::MAX,
+    };
     for _ in 0..5 {
-        for (question, least) in &mut times {
-            let mut ask = || lesson.search(black_box(*question));
+        for (question, least) in &mut times.questions {
+            let mut ask = || desk.search(black_box(*question));
             *least = mean_of(RUNS_OF_A_QUESTION, &mut ask).min(*least);
         }
-        model = mean_of(RUNS_OF_A_CALL, &mut || lesson.model()).min(model);
+        let model = mean_of(RUNS_OF_A_CALL, &mut || desk.model());
+        times.model = model.min(times.model);
+        let changes = mean_of(RUNS_OF_A_CALL, &mut || put_in_and_out(&mut desk));
+        times.change = (changes / 2).min(times.change);
     }
-    (times, model)
+    times
 }
 
 fn plain(tree: Tree, literal: usize) -> Question {
@@ -260,15 +329,16 @@ fn call_on(call: &str, stack: usize) {
         "deep" => deep_file(),
         _ => full_file(1),
     };
-    let mut lesson = Lesson::fresh();
-    lesson.load(&file).expect("the book loads");
+    let mut desk = Desk::fresh();
+    desk.load(&file).expect("the book loads");
     let mut buffer = vec![0; 8192];
     let work = || match call {
-        "load" => lesson.load(&file),
-        "model" => lesson.model().map(drop),
-        "listing" => lesson.listing(&mut buffer).map(drop),
-        "deep" => lesson.search(plain(Tree::TU, 0)).map(drop),
-        _ => lesson.search(question_named(call)).map(drop),
+        "load" => desk.load(&file),
+        "put-in" => desk.put_in(FACT),
+        "model" => desk.model().map(drop),
+        "listing" => desk.listing(&mut buffer).map(drop),
+        "deep" => desk.search(plain(Tree::TU, 0)).map(drop),
+        _ => desk.search(question_named(call)).map(drop),
     };
     thread::scope(|scope| {
         let worker = thread::Builder::new()
@@ -314,13 +384,14 @@ fn print_stack() {
     println!("|---|---|");
     for (label, call) in [
         ("load of the full random book", "load"),
+        ("put in on the full random book", "put-in"),
         ("model of the full random book", "model"),
         ("listing of the full random book", "listing"),
         ("search of the deep book, 60 and 60 names", "deep"),
     ] {
         println!("| {label} | {} |", least_stack(call));
     }
-    let (times, _) = times_of_questions(&full_file(1));
+    let times = times_of_questions(&full_file(1)).questions;
     let slowest = times.into_iter().max_by_key(|(_, time)| *time);
     let (Question { tree, literal, .. }, _) = slowest.expect("a book has questions");
     let least = least_stack(&format!("{tree:?}{literal}"));

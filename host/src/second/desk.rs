@@ -1,4 +1,4 @@
-//! The calls on one lesson (document 01, "When a call is turned down by the state").
+//! The calls on one desk (document 01, "When a call is turned down by the state").
 
 use super::book::Book;
 use super::listing::listing;
@@ -8,17 +8,18 @@ use super::trees::search;
 use crate::answer::{Model, Question, Refused, Verdict};
 use std::collections::BTreeSet;
 
-/// A lesson: a book, once one is loaded, and the facts put in.
+/// A desk: a book, once one is loaded, and the facts put in. M and N don't stand here: each call that
+/// needs them works them out.
 #[derive(Clone, Debug, Default, PartialEq, Eq)]
-pub struct Lesson {
+pub struct Desk {
     book: Option<Book>,
     facts: BTreeSet<usize>,
 }
 
-impl Lesson {
-    /// A fresh lesson, with no book and no facts.
-    pub fn fresh() -> Lesson {
-        Lesson::default()
+impl Desk {
+    /// A fresh desk, with no book and no facts.
+    pub fn fresh() -> Desk {
+        Desk::default()
     }
 
     /// The book, once one is loaded.

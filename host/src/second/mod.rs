@@ -14,7 +14,7 @@ pub use book::{complement, Book, Entry, Rule};
 pub use book::{
     MOST_BODY_LITERALS, MOST_BYTES, MOST_IN_A_BODY, MOST_LETTERS, MOST_NAMES, MOST_RULES,
 };
-pub use desk::Lesson;
+pub use desk::Desk;
 pub use listing::{listing, program_output};
 pub use model::{contradictory_name, gamma, verdict, Halves, Program};
 pub use reader::read;

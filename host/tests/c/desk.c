@@ -1,0 +1,49 @@
+/* A desk in C: loads a book, puts in a fact, asks for verdict, search and model, and prints the listing. */
+#include "mezhkura.h"
+
+#include <stdio.h>
+#include <string.h>
+
+/* The sizes that the Rust side asserts of its own structs. */
+_Static_assert(sizeof(mezhkura_litset) == 32, "set of literals");
+_Static_assert(sizeof(mezhkura_book) == 8344, "book");
+_Static_assert(sizeof(struct mezhkura_model) == 64, "model");
+_Static_assert(sizeof(mezhkura_shelf) == 8352, "shelf");
+_Static_assert(sizeof(mezhkura_lesson) == 96, "lesson");
+_Static_assert(sizeof(mezhkura_desk) == 8448, "desk");
+_Static_assert(sizeof(mezhkura_load_reply) == 8464, "reply to a load");
+_Static_assert(sizeof(mezhkura_change_reply) == 8456, "reply to a change");
+_Static_assert(sizeof(mezhkura_verdict_reply) == 2, "reply to a verdict");
+_Static_assert(sizeof(mezhkura_search_reply) == 2, "reply to a search");
+_Static_assert(sizeof(mezhkura_model_reply) == 72, "reply to the model call");
+_Static_assert(sizeof(mezhkura_listing_reply) == 16, "reply to a listing");
+
+int main(void)
+{
+    const char *file = "name,brake_held\nname,may_park\nrule,may_park,brake_held\nend\n";
+    mezhkura_load_reply load = mezhkura_load(mezhkura_fresh(), (const uint8_t *)file, strlen(file));
+    mezhkura_change_reply put = mezhkura_put_in(load.desk, 0);
+    mezhkura_change_reply again = mezhkura_put_in(put.desk, 0);
+    mezhkura_change_reply out = mezhkura_take_out(again.desk, 2);
+    mezhkura_verdict_reply verdict = mezhkura_verdict(out.desk, 2);
+    mezhkura_search_reply search = mezhkura_search(out.desk, 3, 1, MEZHKURA_T);
+    mezhkura_model_reply model = mezhkura_model(out.desk);
+    uint8_t buffer[200];
+    mezhkura_listing_reply listing = mezhkura_listing(out.desk, buffer, sizeof buffer);
+    mezhkura_listing_reply shorter = mezhkura_listing(out.desk, buffer, listing.length - 1);
+
+    /* Where a caller takes literal 2 out of M, its verdict is undefined, since it is in N still. */
+    mezhkura_desk written = out.desk;
+    written.lesson.model.truths.words[0] = 1;
+    mezhkura_verdict_reply of_written = mezhkura_verdict(written, 2);
+
+    printf("%d %d %d %d\n", load.number, put.number, again.number, out.number);
+    printf("%d %d\n", verdict.number, verdict.verdict);
+    printf("%d %d\n", search.number, search.holds);
+    printf("%d %d %d %d\n", model.number, model.contradictory, (int)model.truths.words[0],
+           (int)model.nonfalse.words[0]);
+    printf("%d %d\n", of_written.number, of_written.verdict);
+    printf("%d %d\n", listing.number, shorter.number);
+    fwrite(buffer, 1, listing.length, stdout);
+    return 0;
+}
