@@ -109,30 +109,32 @@ fn change_number(a: ChangeAnswer) -> u8
     }
 }
 
+fn changed(desk: Desk, change: Change) -> ChangeReply
+    ensures { λ r. ⌜ ChangeIn (desk .shelf) (Changes (desk .shelf) (desk .lesson) change) r ⌝ }
+{
+    let q = lesson::change_facts(desk.shelf, desk.lesson, change);
+    let answer = q.answer;
+    let lesson = q.lesson;
+    let mut after = desk;
+    after.lesson = lesson;
+    ChangeReply {
+        number: change_number(answer),
+        desk: after,
+    }
+}
+
 #[no_mangle]
 pub extern "C" fn mezhkura_put_in(desk: Desk, literal: usize) -> ChangeReply
     ensures { λ r. ⌜ ChangeIn (desk .shelf) (Changes (desk .shelf) (desk .lesson) (PutIn literal)) r ⌝ }
 {
-    let q = lesson::change_facts(desk.shelf, desk.lesson, Change::PutIn(literal));
-    let answer = q.answer;
-    let lesson = q.lesson;
-    ChangeReply {
-        number: change_number(answer),
-        desk: Desk { lesson, ..desk },
-    }
+    changed(desk, Change::PutIn(literal))
 }
 
 #[no_mangle]
 pub extern "C" fn mezhkura_take_out(desk: Desk, literal: usize) -> ChangeReply
     ensures { λ r. ⌜ ChangeIn (desk .shelf) (Changes (desk .shelf) (desk .lesson) (TakeOut literal)) r ⌝ }
 {
-    let q = lesson::change_facts(desk.shelf, desk.lesson, Change::TakeOut(literal));
-    let answer = q.answer;
-    let lesson = q.lesson;
-    ChangeReply {
-        number: change_number(answer),
-        desk: Desk { lesson, ..desk },
-    }
+    changed(desk, Change::TakeOut(literal))
 }
 
 // ---- verdict
