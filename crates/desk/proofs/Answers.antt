@@ -7,7 +7,6 @@ use mathlib.Core.Logic.{_↔_}
 use Prim.Native.Nat.{ℕ, _≤_}
 use lib.ListN.{length}
 use Rattle.wfsx.specs.Sets.{Set}
-use Rattle.wfsx.specs.Program.{Program}
 use Rattle.wfsx.specs.Model.{M}
 use Rattle.litset.specs.Words.{clashIn}
 use Rattle.litset.specs.declared.Clash.{Clash}
@@ -23,7 +22,7 @@ use Rattle.lesson.proofs.WithBook.{model-loaded, set-loaded, listing-fits, list
 use Rattle.lesson.proofs.Sound.{Sound, heads-in-book, heads-in-room}
 use Rattle.lesson.proofs.Replies.{bytes-most}
 use Rattle.lesson.proofs.Standing.{bytes-stand}
-use Rattle.desk.specs.Calls.{stateOf, Fresh}
+use Rattle.desk.specs.Calls.{Fresh}
 use Rattle.desk.specs.Runs.{Call, left, Run, ModelDue, ListingDue}
 use Rattle.desk.specs.declared.Desk.{Desk}
 use Rattle.desk.proofs.Left.{left-means, left-good, standing-left}

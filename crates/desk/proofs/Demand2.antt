@@ -1,6 +1,6 @@
 -- Demand 2: a verdict in a run is that of the model of the list's program, and 24 is given exactly where the published definition gives it none. The sets
 -- that stand are M and N of that program, so what the call reads from them is what the definition says.
-use mathlib.Core.Path.{_≡_, refl, sym, _∙_, ap}
+use mathlib.Core.Path.{_≡_, refl, ap}
 use mathlib.Core.List.{List}
 use Prim.Native.Nat.{ℕ}
 use Rattle.wfsx.specs.Sets.{Set, _∈_}
@@ -13,13 +13,13 @@ use Rattle.litset.specs.declared.Clash.{Clash}
 use Rattle.litset.specs.declared.Clash.the-variants as clash
 use Rattle.fixpoint.specs.Result.{verdictIn}
 use Rattle.fixpoint.proofs.Published.{no-clash, clash-name, verdict-same}
-use Rattle.lesson.specs.State.{State, inBook, programIn, ContradictoryOver, Said, gives, refused, unlessClash, verdictSays}
-use Rattle.lesson.specs.Calls.{shelfOf, truthsOf, nonfalseOf, verdictSaid, GivesVerdict}
+use Rattle.lesson.specs.State.{State, inBook, programIn, ContradictoryOver, gives, unlessClash, verdictSays}
+use Rattle.lesson.specs.Calls.{truthsOf, nonfalseOf, verdictSaid, GivesVerdict}
 use Rattle.lesson.specs.declared.VerdictAnswer.{VerdictAnswer}
 use Rattle.lesson.proofs.Order.{given-refused}
 use Rattle.lesson.proofs.WithBook.{verdict-inside}
 use Rattle.lesson.proofs.Sound.{Sound, heads-in-book, heads-in-room}
-use Rattle.desk.specs.Calls.{stateOf, Fresh}
+use Rattle.desk.specs.Calls.{Fresh}
 use Rattle.desk.specs.Runs.{Call, left, Run, ModelVerdict, VerdictDue}
 use Rattle.desk.specs.declared.Desk.{Desk}
 use Rattle.desk.proofs.Left.{left-means, left-good, standing-left}

@@ -18,11 +18,10 @@ use Rattle.reader.proofs.Outcomes.{names-loaded, rules-loaded, was-accepted, wa
 use Rattle.reader.proofs.Within.{accepted-within}
 use Rattle.reader.specs.Loading.{loadedOf}
 use Rattle.reader.specs.declared.Loaded.{Loaded}
-use Rattle.lesson.specs.State.{BookState, unloaded, loaded-with, emptied, State}
-use Rattle.lesson.specs.Calls.{shelfOf, Standing}
-use Rattle.lesson.specs.declared.Shelf.{Shelf}
+use Rattle.lesson.specs.State.{loaded-with, emptied, State}
+use Rattle.lesson.specs.Calls.{shelfOf}
 use Rattle.lesson.proofs.Meaning.{shelf-empty, shelf-loaded}
-use Rattle.lesson.proofs.Sound.{Sound, sound-nothing, sound-book}
+use Rattle.lesson.proofs.Sound.{sound-nothing, sound-book}
 use Rattle.lesson.proofs.Standing.{own-begins, begin-empty, begin-loaded}
 use Rattle.lesson.proofs.Exists.{begin-exists}
 use Rattle.desk.specs.Calls.{stateOf, Begun, Fresh, LoadsAs}

@@ -1,7 +1,7 @@
 -- The result of `fixpoint` in the published terms: M has a lowest-numbered name with both literals exactly where the program is contradictory, the
 -- verdict is that of the semantics, and nothing is left open.
 use mathlib.Core.Path.{_≡_, refl, sym, _∙_, ap, ap₂}
-use mathlib.Core.Logic.{_↔_, _⊎_, inl, inr}
+use mathlib.Core.Logic.{_↔_}
 use Prim.Native.Nat.{ℕ, _<_}
 use native.Mathlib.Omega.{arith}
 use borrow.Author.Tests.{ltb-true, lt-ltb}
@@ -56,14 +56,6 @@ module _ (P : Program) (small : Heads⊆ P room) where
         go None a = (λ e. absurd (none-name n e), λ w. absurd (a n (w .1 .0)))
         go (Name k) a =
             (λ e. (contradiction P base over .1 (k, a .0), rw (same-name k n e) at a), λ w. ap Name (lowest-one (M P) k n a (w .1)))
-
-    -- so this is decided
-    pub contradictory-or : Contradictory P base ⊎ (Contradictory P base → ⊥)
-    contradictory-or = go (clashIn (M P)) refl
-      where
-        go : (c : Clash) → clashIn (M P) ≡ c → Contradictory P base ⊎ (Contradictory P base → ⊥)
-        go None e = inr (no-clash .0 e)
-        go (Name n) e = inl (clash-name n .0 e .0)
 
 -- the verdict that M and N give is that of the semantics
 pub verdict-same : (P : Program) (T U : Set) → T ≡ M P → U ≡ N P → (A : ℕ) → verdictIn T U A ≡ verdict P A

@@ -1,16 +1,15 @@
 -- Putting in and taking out leave the lesson what their arguments say, or leave it as it was; and some reply meets their contract.
 use mathlib.Core.Path.{_≡_, refl, sym, _∙_, ap}
-use mathlib.Core.Bool.{Bool, true, false, not, cond, _&&_, _||_, and-false, true≢false}
+use mathlib.Core.Bool.{Bool, true, false, and-false, true≢false}
 use mathlib.Core.Logic.{inr}
 use Prim.Native.Nat.{ℕ}
-use lib.Dec.{eqb}
 use borrow.Author.Tests.{eq-eqb, lt-ltb}
-use Rattle.wfsx.specs.Sets.{Set, _⊆_, add}
-use Rattle.litset.specs.Words.{capacity, room, setOf, without}
+use Rattle.wfsx.specs.Sets.{Set, add}
+use Rattle.litset.specs.Words.{capacity, without}
 use Rattle.litset.proofs.Made.{words-for}
 use Rattle.litset.proofs.Words.{without-at}
 use Rattle.fixpoint.proofs.Published.{model-exists}
-use Rattle.lesson.specs.State.{Own, State, inForce, programIn, Said, gives, refused, Ack, acknowledged, literalIn, changeFits, changeSays, changedSet, changed, unlessRefused, ownAfter}
+use Rattle.lesson.specs.State.{inForce, programIn, Said, gives, refused, Ack, acknowledged, literalIn, changeFits, changeSays, changedSet, changed, ownAfter}
 use Rattle.lesson.specs.Calls.{shelfOf, ownOf, meaningOf, changeSaid, LessonAfter, Changes}
 use Rattle.lesson.specs.declared.Shelf.{Shelf}
 use Rattle.lesson.specs.declared.Lesson.{Lesson}

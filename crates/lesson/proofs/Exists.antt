@@ -4,7 +4,7 @@ use mathlib.Core.Bool.{Bool, true, false, cond}
 use mathlib.Core.List.{List}
 use Prim.Native.Nat.{ℕ}
 use lib.ListN.{replicate}
-use Rattle.wfsx.specs.Sets.{Set, ∅}
+use Rattle.wfsx.specs.Sets.{∅}
 use Rattle.wfsx.specs.Program.{Entry}
 use Rattle.wfsx.specs.Model as wfsx
 use Rattle.wfsx.specs.Trees.{Tree}

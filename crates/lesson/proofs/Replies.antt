@@ -1,10 +1,9 @@
 -- What a reply is once the tests of a call have picked an arm, over plain values: the calls' proofs cite these.
-use mathlib.Core.Path.{_≡_, refl, sym, _∙_, ap, ap₂}
+use mathlib.Core.Path.{_≡_, refl, sym, _∙_, ap}
 use mathlib.Core.Bool.{Bool, true, false, cond, true≢false}
-use mathlib.Core.Logic.{_⊎_, inl, inr}
-use mathlib.Core.List.{List, _++_}
+use mathlib.Core.List.{List}
 use lib.Dec.{leb}
-use lib.ListN.{length, drop}
+use lib.ListN.{length}
 use Prim.Native.Nat.{ℕ, _≤_, _<_}
 use native.Mathlib.Omega.{arith}
 use Rattle.wfsx.specs.Sets.{Set, ∅}
@@ -17,18 +16,17 @@ use Rattle.litset.proofs.Words.{with-room}
 use Rattle.litset.specs.declared.Clash.{Clash}
 use Rattle.litset.specs.declared.Clash.the-variants as clash
 use Rattle.book.specs.Book.{programOf}
-use Rattle.fixpoint.specs.Result.{ModelOf, verdictIs, verdictIn}
+use Rattle.fixpoint.specs.Result.{verdictIs, verdictIn}
 use Rattle.fixpoint.specs.declared.Model.{Model}
 use Rattle.fixpoint.specs.declared.Verdict.{Verdict}
-use Rattle.lister.specs.Listing.{listingBySets}
 use Rattle.lister.specs.Listing as lister
 use Rattle.lister.specs.Buffer.{Writes}
 use Rattle.lister.specs.declared.Written.{Written}
 use Rattle.lister.specs.declared.Written.the-variants.{Length, Short}
 use Rattle.lister.proofs.Calls.{was-written, was-short}
 use Rattle.lister.proofs.Lines.{listing-room}
-use Rattle.lesson.specs.State.{BookState, Own, itsNames, itsRules, inForce, programIn, Said, gives, refused, Ack, acknowledged, noneLoaded, ifLoaded, inOrder, literalIn, changeFits, changeSays, changedSet, changed, searchSays, unlessClash, verdictSays, isClash, modelSays, setGiven, listingFrom, listingSays, bufferAfter}
-use Rattle.lesson.specs.Calls.{shelfOf, ownOf, meaningOf, truthsOf, nonfalseOf, numberSays, ModelAfter, changeSaid, Changes, GivesVerdict, Searches, GivesModel, bytesOf, Lists}
+use Rattle.lesson.specs.State.{inForce, Said, gives, refused, Ack, acknowledged, noneLoaded, inOrder, literalIn, changeFits, changeSays, changedSet, changed, searchSays, unlessClash, verdictSays, isClash, modelSays, setGiven, listingFrom, listingSays}
+use Rattle.lesson.specs.Calls.{shelfOf, ownOf, meaningOf, truthsOf, nonfalseOf, numberSays, ModelAfter, Changes, GivesVerdict, Searches, GivesModel, bytesOf, Lists}
 use Rattle.lesson.specs.declared.Shelf.{Shelf}
 use Rattle.lesson.specs.declared.Lesson.{Lesson}
 use Rattle.lesson.specs.declared.Change.{Change}

@@ -23,7 +23,7 @@ use Rattle.lesson.specs.State.{BookState, unloaded, loaded-with, State, 
 use Rattle.lesson.specs.Conditions.{NoBook, NotBelow, changeRow, changeRows, verdictRows, searchRows, modelRows, listingRows}
 use Rattle.lesson.specs.declared.Change.{Change}
 use Rattle.lesson.specs.declared.Change.the-variants.{PutIn, TakeOut}
-use Rattle.lesson.proofs.Order.{given-refused, refused-same, unloaded-says, loaded-says, none-loaded, outside, inside}
+use Rattle.lesson.proofs.Order.{given-refused, refused-same, unloaded-says, loaded-says}
 use Rattle.lesson.proofs.Sound.{Sound, heads-in-book, heads-in-room}
 
 abbrev pub By : {X : Type 0} → Said X → List Row → Type 0

@@ -1,7 +1,7 @@
 -- What a list of calls leaves is sound: heads and facts are literals of its book, which has no more names than a table. So its program is one over the
 -- literals of the book, and has room in a set.
 use mathlib.Core.Path.{_≡_, refl, sym, _∙_}
-use mathlib.Core.Bool.{true, false, not, true≢false}
+use mathlib.Core.Bool.{not, true≢false}
 use mathlib.Core.Logic.{⊎-elim}
 use mathlib.Core.List.{List, map, List·Memᴰ·append-cases, List·Memᴰ·not-nil, Memᴰ·of-map}
 use Prim.Native.Nat.{ℕ, _*_, _≤_, _<_}

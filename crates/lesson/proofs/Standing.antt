@@ -1,20 +1,19 @@
 -- The sets that a lesson holds stand for M and N of its program: where it begins on a book, and after every change, since a model stays only where the
 -- program does.
 use mathlib.Core.Path.{_≡_, refl, sym, _∙_, ap}
-use mathlib.Core.Logic.{_⊎_, inl, inr}
+use mathlib.Core.Logic.{inl, inr}
 use mathlib.Core.List.{List, []}
 use Prim.Native.Nat.{ℕ}
-use Rattle.wfsx.specs.Sets.{Set, ∅}
-use Rattle.wfsx.specs.Program.{Rule, Program}
-use Rattle.wfsx.specs.Model.{M, N}
+use Rattle.wfsx.specs.Sets.{∅}
+use Rattle.wfsx.specs.Program.{Rule}
 use Rattle.book.specs.Book.{rulesOf, program, programOf}
 use Rattle.book.specs.declared.Book.{Book}
 use Rattle.book.proofs.Heads.{program-of}
 use Rattle.fixpoint.specs.Result.{ModelOf}
 use Rattle.lister.specs.Listing.{listingOf}
 use Rattle.lister.proofs.Standing.{listing-stands}
-use Rattle.lesson.specs.State.{BookState, loaded-with, Own, State, emptied, itsNames, itsRules, inForce, programIn, listingIn, listingFrom, Said, gives, refused, noneLoaded, changed, unlessRefused, ownAfter, changeSays}
-use Rattle.lesson.specs.Calls.{shelfOf, ownOf, meaningOf, Standing, bytesOf, Begins, ModelAfter, changeSaid, ChangesTo, LessonAfter, Changes}
+use Rattle.lesson.specs.State.{BookState, loaded-with, Own, emptied, itsRules, inForce, programIn, listingIn, listingFrom, changed}
+use Rattle.lesson.specs.Calls.{shelfOf, ownOf, meaningOf, Standing, bytesOf, Begins, ModelAfter, ChangesTo, LessonAfter, Changes}
 use Rattle.lesson.specs.declared.Shelf.{Shelf}
 use Rattle.lesson.specs.declared.Lesson.{Lesson}
 use Rattle.lesson.specs.declared.Change.{Change}

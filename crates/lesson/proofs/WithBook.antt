@@ -1,16 +1,16 @@
 -- What the calls that read say where there is a book, and of a literal of it.
 use mathlib.Core.Path.{_≡_, refl, _∙_}
-use mathlib.Core.Bool.{true, false, cond}
-use mathlib.Core.List.{List, _++_}
+use mathlib.Core.Bool.{false}
+use mathlib.Core.List.{List}
 use Prim.Native.Nat.{ℕ, _≤_, _<_}
-use lib.ListN.{length, drop}
+use lib.ListN.{length}
 use borrow.Author.Tests.{le-leb, lt-leb}
 use Rattle.wfsx.specs.Sets.{Set, _∈_}
 use Rattle.wfsx.specs.Program.{Entry}
 use Rattle.wfsx.specs.Trees.{Tree, answer}
 use Rattle.litset.specs.Words.{clashIn}
 use Rattle.fixpoint.specs.Result.{verdictIn}
-use Rattle.lesson.specs.State.{BookState, State, programIn, noneLoaded, inBook, Said, gives, refused, searchSays, unlessClash, verdictSays, isClash, modelSays, setGiven, listingSays}
+use Rattle.lesson.specs.State.{BookState, State, programIn, noneLoaded, inBook, gives, refused, searchSays, unlessClash, verdictSays, isClash, modelSays, setGiven, listingSays}
 use Rattle.lesson.proofs.Order.{loaded-says, inside, some-book}
 
 pub verdict-inside : (b : BookState) (T U : Set) (A : ℕ) → A ∈ inBook b → verdictSays b T U A ≡ unlessClash (clashIn T) (gives (verdictIn T U A))

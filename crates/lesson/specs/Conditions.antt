@@ -5,7 +5,7 @@ use Prim.Native.Nat.{ℕ, _*_, _≤_, _<_}
 use lib.ListN.{length}
 use Rattle.wfsx.specs.Sets.{_∈_, _∉_}
 use Rattle.reader.specs.Conditions.{Row}
-use Rattle.lesson.specs.State.{BookState, unloaded, itsNames, State, inBook, ContradictoryOver, listingIn, literalIn}
+use Rattle.lesson.specs.State.{unloaded, itsNames, State, inBook, ContradictoryOver, listingIn, literalIn}
 use Rattle.lesson.specs.declared.Change.{Change}
 use Rattle.lesson.specs.declared.Change.the-variants.{PutIn, TakeOut}
 

@@ -4,16 +4,15 @@ use mathlib.Core.List.{List, [], _∷_, _++_}
 use mathlib.Core.Bool.{true≢false}
 use Prim.Native.Nat.{ℕ, _≤_}
 use native.Mathlib.Omega.{arith}
-use lib.ListN.{length, take, drop, length-take}
+use lib.ListN.{length, take, length-take}
 use lib.Seq.{take-append-seam}
-use Rattle.wfsx.specs.Program.{Rule}
-use Rattle.reader.specs.File.{Outcome, accepted, refused, readFile}
+use Rattle.reader.specs.File.{accepted, readFile}
 use Rattle.reader.specs.declared.Answer.the-variants.{Accepted, Refused}
 use Rattle.lister.specs.Listing.{refusalOf}
 use Rattle.lister.specs.Buffer.{Writes}
 use Rattle.lister.specs.declared.Written.{Written}
 use Rattle.lister.proofs.Calls.{was-written, length-answered}
-use Rattle.lesson.specs.State.{BookState, unloaded, State, noneLoaded, listingIn, Said, gives}
+use Rattle.lesson.specs.State.{State, noneLoaded, listingIn, gives}
 use Rattle.lesson.specs.Calls.{Lists, listingSaid}
 use Rattle.lesson.specs.Conditions.{NoBook}
 use Rattle.lesson.specs.declared.ListingAnswer.{ListingAnswer}

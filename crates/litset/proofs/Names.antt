@@ -14,7 +14,6 @@ use lib.ListN.{getD}
 use lib.Pow.{shl-exact, shl-shr, shr-shr}
 use borrow.Author.Tests.{eqb-true}
 use Rattle.truth.proofs.Truth.{clash, and-l, and-r, and-intro}
-use Rattle.wfsx.specs.Sets.{Set}
 use Rattle.wfsx.specs.Program.{compl, complements}
 use Rattle.wfsx.specs.Model.{Both}
 use Rattle.wfsx.proofs.Program.{compl-plain, compl-negated}

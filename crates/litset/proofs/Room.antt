@@ -1,15 +1,13 @@
 -- How many literals below the capacity are outside a set: a set that grows leaves fewer.
-use mathlib.Core.Path.{_≡_, refl, sym}
+use mathlib.Core.Path.{_≡_, refl}
 use mathlib.Core.Logic.{_⊎_, inl, inr}
-use mathlib.Core.Bool.{true, false}
+use mathlib.Core.Bool.{true}
 use mathlib.Core.List.{List}
-use Prim.Native.Nat.{ℕ, _≤_, _<_}
-use lib.ListN.{length}
+use Prim.Native.Nat.{ℕ, _<_}
 use Rattle.wfsx.specs.Sets.{Set, _∈_, _∉_, _⊆_, _isIn_, members}
-use Rattle.wfsx.proofs.Sets.{⊆-antisym, outside, outside-most, outside-falls, outside-add, first-missing}
+use Rattle.wfsx.proofs.Sets.{⊆-antisym, outside, outside-falls, first-missing}
 use Rattle.wfsx.proofs.Members.{members-are}
-use Rattle.litset.specs.Words.{capacity, with}
-use Rattle.litset.proofs.Words.{with-room}
+use Rattle.litset.specs.Words.{capacity}
 
 -- every literal that a set has room for
 unfoldable pub literals : List ℕ
@@ -18,9 +16,6 @@ literals = members capacity (λ A. true)
 abbrev pub free : Set → ℕ
 free S = outside S literals
 
-pub free-most : (S : Set) → free S ≤ length literals
-free-most S = outside-most S literals
-
 pub free-falls : (X Y : Set) → X ⊆ Y → ((A : ℕ) → A ∈ Y → A < capacity) → (X ≡ Y → ⊥) → free Y < free X
 unfolding literals
 free-falls X Y f below ne = go (first-missing X Y literals)
@@ -28,7 +23,3 @@ free-falls X Y f below ne = go (first-missing X Y literals)
     go : ((A : ℕ) → A isIn literals → A ∈ Y → A ∈ X) ⊎ ((A : ℕ) × A isIn literals × A ∈ Y × A ∉ X) → free Y < free X
     go (inl g) = absurd (ne (⊆-antisym f (λ A a. g A (members-are capacity (λ _. true) A .1 (refl, below A a)) a)))
     go (inr w) = outside-falls X Y f (w .0) (w .3) (w .2) (w .1)
-
-pub free-with : (a : ℕ) → a < capacity → (S W : Set) → W ≡ with a S → false ≡ S a → free W < free S
-unfolding literals
-free-with a small S W w new = rw (w, with-room a S small) (outside-add S a (sym new) (members-are capacity (λ A. true) a .1 (refl, small)))
