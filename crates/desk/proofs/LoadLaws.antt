@@ -25,7 +25,7 @@ use Rattle.lesson.proofs.Sound.{sound-nothing, sound-book}
 use Rattle.lesson.proofs.Standing.{own-begins, begin-empty, begin-loaded}
 use Rattle.lesson.proofs.Exists.{begin-exists}
 use Rattle.desk.specs.Calls.{stateOf, Begun, Fresh, LoadsAs}
-use Rattle.desk.specs.Runs.{load, nothing, reads, specOf}
+use Rattle.desk.specs.Runs.{load, nothing, afterLoad, specOf}
 use Rattle.desk.specs.declared.Desk.{Desk}
 use Rattle.desk.specs.declared.LoadReply.{LoadReply}
 use Rattle.desk.proofs.Laws.{Good, DeskLaws}
@@ -68,7 +68,7 @@ module _ (file : List ℕ) (names : List (List ℕ)) (rules : List Rule) (e : re
 -- ---- a load, by its outcome
 
 module _ (k : Desk) (file : List ℕ) (r : LoadReply) where
-  load-means : (o : Outcome) → readFile file ≡ o → LoadsAs k o r → stateOf (r .desk) ≡ reads (stateOf k) o
+  load-means : (o : Outcome) → readFile file ≡ o → LoadsAs k o r → stateOf (r .desk) ≡ afterLoad (stateOf k) o
   load-means (accepted names rules) e h = accepted-means file names rules e (r .desk) (h .1)
   load-means (reader.refused number line) e h = ap stateOf (h .1)
 

@@ -50,13 +50,13 @@ abbrev pub nothing : State
 nothing = record { book = unloaded; own = emptied }
 
 -- a load makes the file's names and rules the book, and empties the set
-abbrev pub reads : State → Outcome → State
-reads d (accepted names rules) = record { book = loaded-with names rules; own = emptied }
-reads d (reader.refused number line) = d
+abbrev pub afterLoad : State → Outcome → State
+afterLoad d (accepted names rules) = record { book = loaded-with names rules; own = emptied }
+afterLoad d (reader.refused number line) = d
 
 -- a call that reads: it changes neither book nor set
-abbrev pub looking : (R : Type 0) {X : Type 0} → (Shelf → Lesson → R → Type 0) → (R → Said X) → (State → List Row) → CallSpec Desk State
-looking R Meets said rows =
+abbrev pub readingCall : (R : Type 0) {X : Type 0} → (Shelf → Lesson → R → Type 0) → (R → Said X) → (State → List Row) → CallSpec Desk State
+readingCall R Meets said rows =
     record {
       Reply = R;
       Meets = λ k r. Meets (k .shelf) (k .lesson) r;
@@ -68,8 +68,8 @@ looking R Meets said rows =
     }
 
 -- a call that reads and is lent a buffer: beside its answer stand the buffer's bytes afterwards
-abbrev pub lending : List ℕ → (R : Type 0) {X : Type 0} → (Shelf → Lesson → R → List ℕ → Type 0) → (R → Said X) → (State → List Row) → CallSpec Desk State
-lending buffer R Meets said rows =
+abbrev pub lentCall : List ℕ → (R : Type 0) {X : Type 0} → (Shelf → Lesson → R → List ℕ → Type 0) → (R → Said X) → (State → List Row) → CallSpec Desk State
+lentCall buffer R Meets said rows =
     record {
       Reply = R × List ℕ;
       Meets = λ k r. Meets (k .shelf) (k .lesson) (r .0) (r .1);
@@ -86,7 +86,7 @@ specOf (load file) =
       Reply = LoadReply;
       Meets = λ k r. Loads k file r;
       next = λ k r. r .desk;
-      after = λ d. reads d (readFile file);
+      after = λ d. afterLoad d (readFile file);
       TurnsDown = λ d number line. IsRefused file number line;
       RefusedBy = λ r number line. r .answer ≡ reading.Refused number line;
       Unwritten = λ r. Unit;
@@ -101,10 +101,10 @@ specOf (change c) =
       RefusedBy = λ r number line. changeSaid (r .answer) ≡ refused number;
       Unwritten = λ r. Unit;
     }
-specOf (verdict A) = looking VerdictAnswer (λ s l r. GivesVerdict s l A r) verdictSaid (λ d. verdictRows d A)
-specOf (search-for A default k) = looking SearchAnswer (λ s l r. Searches s l A k (questionOf A default) r) searchSaid (λ d. searchRows d A)
-specOf model = looking ModelReply GivesModel (λ r. modelSaid (r .answer)) modelRows
-specOf (listing buffer) = lending buffer ListingAnswer (λ s l r after. Lists s l buffer r after) listingSaid (λ d. listingRows d buffer)
+specOf (verdict A) = readingCall VerdictAnswer (λ s l r. GivesVerdict s l A r) verdictSaid (λ d. verdictRows d A)
+specOf (search-for A default t) = readingCall SearchAnswer (λ s l r. Searches s l A t (questionOf A default) r) searchSaid (λ d. searchRows d A)
+specOf model = readingCall ModelReply GivesModel (λ r. modelSaid (r .answer)) modelRows
+specOf (listing buffer) = lentCall buffer ListingAnswer (λ s l r after. Lists s l buffer r after) listingSaid (λ d. listingRows d buffer)
 
 -- ---- lists
 

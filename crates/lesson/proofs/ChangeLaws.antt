@@ -9,7 +9,7 @@ use Rattle.litset.specs.Words.{capacity, without}
 use Rattle.litset.proofs.Made.{words-for}
 use Rattle.litset.proofs.Words.{without-at}
 use Rattle.fixpoint.proofs.Published.{model-exists}
-use Rattle.lesson.specs.State.{inForce, programIn, Said, gives, refused, Ack, acknowledged, literalIn, changeFits, changeSays, changedSet, changed, ownAfter}
+use Rattle.lesson.specs.State.{inForce, programIn, Said, gives, refused, Ack, acknowledged, itsLiteral, changeFits, changeSays, changedSet, changed, ownAfter}
 use Rattle.lesson.specs.Calls.{shelfOf, ownOf, meaningOf, changeSaid, LessonAfter, Changes}
 use Rattle.lesson.specs.declared.Shelf.{Shelf}
 use Rattle.lesson.specs.declared.Lesson.{Lesson}
@@ -41,7 +41,7 @@ module _ (s : Shelf) (l : Lesson) (c : Change) where
 -- ---- some reply meets the contract
 
 -- an accepted change makes another set
-differs : (c : Change) (S : Set) → changeFits c (S (literalIn c)) ≡ gives acknowledged → changedSet c S ≡ S → ⊥
+differs : (c : Change) (S : Set) → changeFits c (S (itsLiteral c)) ≡ gives acknowledged → changedSet c S ≡ S → ⊥
 differs (PutIn A) S f same = go (S A) refl f
   where
     go : (t : Bool) → S A ≡ t → changeFits (PutIn A) t ≡ gives acknowledged → ⊥
@@ -66,8 +66,8 @@ change-exists s l c sound = go (changeSays (meaningOf s l) c) refl
         let d = meaningOf s l in
         let own = changed c (ownOf l) in
         let after : Sound (record { book = shelfOf s; own = own }) = rw e at (sound-change c d sound) in
-        let at = given-inside (shelfOf s) (literalIn c) _ acknowledged e in
-        let other = differs c (ownOf l .putIn) (sym (inside (shelfOf s) (literalIn c) _ (at .0) (at .1)) ∙ e) in
+        let at = given-inside (shelfOf s) (itsLiteral c) _ acknowledged e in
+        let other = differs c (ownOf l .putIn) (sym (inside (shelfOf s) (itsLiteral c) _ (at .0) (at .1)) ∙ e) in
         let facts = words-for (own .putIn) (λ A h. lt-ltb A capacity (book-in-room _ after A (after .facts-known A h))) in
         let m = model-exists (programIn (record { book = shelfOf s; own = own })) (heads-in-room _ after) in (
           record { answer = change.Done; lesson = record { facts = facts .0; model = m .0 } },

@@ -25,7 +25,7 @@ use Rattle.lister.specs.declared.Written.{Written}
 use Rattle.lister.specs.declared.Written.the-variants.{Length, Short}
 use Rattle.lister.proofs.Calls.{was-written, was-short}
 use Rattle.lister.proofs.Lines.{listing-room}
-use Rattle.lesson.specs.State.{inForce, Said, gives, refused, Ack, acknowledged, noneLoaded, inOrder, literalIn, changeFits, changeSays, changedSet, changed, searchSays, unlessClash, verdictSays, isClash, modelSays, setGiven, listingFrom, listingSays}
+use Rattle.lesson.specs.State.{inForce, Said, gives, refused, Ack, acknowledged, noneLoaded, inOrder, itsLiteral, changeFits, changeSays, changedSet, changed, searchSays, unlessClash, verdictSays, isClash, modelSays, setGiven, listingFrom, listingSays}
 use Rattle.lesson.specs.Calls.{shelfOf, ownOf, meaningOf, truthsOf, nonfalseOf, numberSays, ModelAfter, Changes, GivesVerdict, Searches, GivesModel, bytesOf, Lists}
 use Rattle.lesson.specs.declared.Shelf.{Shelf}
 use Rattle.lesson.specs.declared.Lesson.{Lesson}
@@ -52,15 +52,15 @@ own-with l F e = ap (λ (S : Set). record { putIn = S }) e
 -- ---- putting in and taking out
 
 module _ (c : Change) (A : ℕ) (S W : Set) where
-  pub put-in-set : c ≡ PutIn A → literalIn c < capacity → W ≡ with A S → W ≡ changedSet c S
+  pub put-in-set : c ≡ PutIn A → itsLiteral c < capacity → W ≡ with A S → W ≡ changedSet c S
   put-in-set e h w = w ∙ with-room A S (rw e at h) ∙ rw e refl
 
   pub taken-out-set : c ≡ TakeOut A → W ≡ without A S → W ≡ changedSet c S
   taken-out-set e w = w ∙ rw e refl
 
-module _ (s : Shelf) (l : Lesson) (c : Change) (A n : ℕ) (is : A ≡ literalIn c) (e : numberSays n ≡ inOrder (shelfOf s) A (gives acknowledged)) where
+module _ (s : Shelf) (l : Lesson) (c : Change) (A n : ℕ) (is : A ≡ itsLiteral c) (e : numberSays n ≡ inOrder (shelfOf s) A (gives acknowledged)) where
   abbrev fits : Said Ack
-  fits = changeFits c (setOf (l .facts .words) (literalIn c))
+  fits = changeFits c (setOf (l .facts .words) (itsLiteral c))
 
   says-fits : inOrder (shelfOf s) A fits ≡ changeSays (meaningOf s l) c
   unfolding changeSays ownOf
@@ -79,13 +79,13 @@ module _ (s : Shelf) (l : Lesson) (c : Change) (n : ℕ) (e : numberSays n ≡ c
   change-refused z = record { says = sym (number-refused n z) ∙ e; leaves = refl }
 
   module _ (z : n ≡ 0) where
-    accepted : (noneLoaded (shelfOf s) ≡ false) × (literalIn c < capacity)
+    accepted : (noneLoaded (shelfOf s) ≡ false) × (itsLiteral c < capacity)
     unfolding changeSays
     accepted =
-        let given = given-inside (shelfOf s) (literalIn c) _ acknowledged (sym e ∙ number-given n z) in
-        (given .0, inside-room s (literalIn c) (given .1))
+        let given = given-inside (shelfOf s) (itsLiteral c) _ acknowledged (sym e ∙ number-given n z) in
+        (given .0, inside-room s (itsLiteral c) (given .1))
 
-    pub change-room : literalIn c < capacity
+    pub change-room : itsLiteral c < capacity
     change-room = accepted .1
 
     pub change-done : (facts : LitSet) (m : Model) → setOf (facts .words) ≡ changedSet c (setOf (l .facts .words))
@@ -167,7 +167,7 @@ module _ (s : Shelf) (l : Lesson) where
 
 -- ---- listing
 
-bytes-are : (s : Shelf) (l : Lesson) → (s .loaded ≡ 0 → ⊥) → (facts : LitSet) → setOf (facts .words) ≡ inForce (ownOf l) → lister.listingIn (s .book) facts (l .model) ≡ bytesOf s l
+bytes-are : (s : Shelf) (l : Lesson) → (s .loaded ≡ 0 → ⊥) → (facts : LitSet) → setOf (facts .words) ≡ inForce (ownOf l) → lister.listingHeld (s .book) facts (l .model) ≡ bytesOf s l
 unfolding listingFrom
 bytes-are s l e facts force = rw (force, shelf-loaded s e) refl
 
@@ -183,7 +183,7 @@ module _ (s : Shelf) (l : Lesson) (before : List ℕ) where
   listing-20 e = record { says = sym (unloaded-says (shelfOf s) _ (none-loaded-is s e)); buffer = refl }
 
   module _ (e : s .loaded ≡ 0 → ⊥) (facts : LitSet) (force : setOf (facts .words) ≡ inForce (ownOf l)) (after : List ℕ) (w : Written)
-      (h : Writes (lister.listingIn (s .book) facts (l .model)) before w after) where
+      (h : Writes (lister.listingHeld (s .book) facts (l .model)) before w after) where
     writes : Writes (bytesOf s l) before w after
     writes = rw (bytes-are s l e facts force) at h
 

@@ -19,7 +19,7 @@ use Rattle.litset.specs.declared.Clash.the-variants as clash
 use Rattle.reader.specs.Conditions.{Row, First}
 use Rattle.fixpoint.specs.Result.{verdictIn}
 use Rattle.fixpoint.proofs.Published.{no-clash, clash-name}
-use Rattle.lesson.specs.State.{BookState, unloaded, loaded-with, State, itsNames, programIn, ContradictoryOver, listingIn, noneLoaded, inBook, Said, gives, refused, acknowledged, ifLoaded, inOrder, literalIn, changeFits, changeSays, searchSays, unlessClash, verdictSays, modelSays, listingSays}
+use Rattle.lesson.specs.State.{BookState, unloaded, loaded-with, State, itsNames, programIn, ContradictoryOver, listingIn, noneLoaded, inBook, Said, gives, refused, acknowledged, ifLoaded, inOrder, itsLiteral, changeFits, changeSays, searchSays, unlessClash, verdictSays, modelSays, listingSays}
 use Rattle.lesson.specs.Conditions.{NoBook, NotBelow, changeRow, changeRows, verdictRows, searchRows, modelRows, listingRows}
 use Rattle.lesson.specs.declared.Change.{Change}
 use Rattle.lesson.specs.declared.Change.the-variants.{PutIn, TakeOut}
@@ -73,9 +73,9 @@ order-by {X} d A rows fits by = loaded-by d ((21, NotBelow d A) ∷ rows) _ (go 
 
 pub change-by : (d : State) (c : Change) → By (changeSays d c) (changeRows d c)
 unfolding changeSays
-change-by d c = order-by d (literalIn c) (changeRow d c ∷ []) _ (fits c)
+change-by d c = order-by d (itsLiteral c) (changeRow d c ∷ []) _ (fits c)
   where
-    fits : (c : Change) → By (changeFits c (d .own .putIn (literalIn c))) (changeRow d c ∷ [])
+    fits : (c : Change) → By (changeFits c (d .own .putIn (itsLiteral c))) (changeRow d c ∷ [])
     fits (PutIn A) = go (d .own .putIn A) refl
       where
         go : (t : Bool) → d .own .putIn A ≡ t → By (changeFits (PutIn A) t) ((22, A ∈ d .own .putIn) ∷ [])

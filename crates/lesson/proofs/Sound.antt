@@ -17,7 +17,7 @@ use Rattle.truth.proofs.Truth.{and-l, or-elim}
 use Rattle.litset.specs.Words.{room, capacity}
 use Rattle.litset.proofs.Words.{without-at}
 use Rattle.book.specs.Limits.{maxNames}
-use Rattle.lesson.specs.State.{unloaded, loaded-with, State, emptied, itsNames, itsRules, inForce, programIn, inBook, Said, gives, refused, Ack, literalIn, changeSays, changedSet, changed, unlessRefused, ownAfter}
+use Rattle.lesson.specs.State.{unloaded, loaded-with, State, emptied, itsNames, itsRules, inForce, programIn, inBook, Said, gives, refused, Ack, itsLiteral, changeSays, changedSet, changed, unlessRefused, ownAfter}
 use Rattle.lesson.specs.declared.Change.{Change}
 use Rattle.lesson.specs.declared.Change.the-variants.{PutIn, TakeOut}
 use Rattle.lesson.proofs.Order.{given-inside}
@@ -45,7 +45,7 @@ sound-book names rules few heads =
     }
 
 -- a changed set has no literal but those that it had and the one that is put in
-changed-from : (c : Change) (d : State) → ((A : ℕ) → A ∈ d .own .putIn → A ∈ inBook (d .book)) → literalIn c ∈ inBook (d .book)
+changed-from : (c : Change) (d : State) → ((A : ℕ) → A ∈ d .own .putIn → A ∈ inBook (d .book)) → itsLiteral c ∈ inBook (d .book)
     → (B : ℕ) → B ∈ changedSet c (d .own .putIn) → B ∈ inBook (d .book)
 changed-from (PutIn A) d known i B h = ⊎-elim (λ q. rw (eqb-true B A q) i) (known B) (or-elim (eqb B A) (d .own .putIn B) h)
 changed-from (TakeOut A) d known i B h = known B (and-l (d .own .putIn B) (not (eqb B A)) (sym (without-at A (d .own .putIn) B) ∙ h))
@@ -59,7 +59,7 @@ sound-change c d s = go (changeSays d c) refl
         record {
           few-names = s .few-names;
           heads-known = s .heads-known;
-          facts-known = changed-from c d (s .facts-known) (given-inside (d .book) (literalIn c) _ x e .1);
+          facts-known = changed-from c d (s .facts-known) (given-inside (d .book) (itsLiteral c) _ x e .1);
         }
     go (refused n) e = s
 

@@ -5,7 +5,7 @@ use Prim.Native.Nat.{ℕ, _*_, _≤_, _<_}
 use lib.ListN.{length}
 use Rattle.wfsx.specs.Sets.{_∈_, _∉_}
 use Rattle.reader.specs.Conditions.{Row}
-use Rattle.lesson.specs.State.{unloaded, itsNames, State, inBook, ContradictoryOver, listingIn, literalIn}
+use Rattle.lesson.specs.State.{unloaded, itsNames, State, inBook, ContradictoryOver, listingIn, itsLiteral}
 use Rattle.lesson.specs.declared.Change.{Change}
 use Rattle.lesson.specs.declared.Change.the-variants.{PutIn, TakeOut}
 
@@ -23,7 +23,7 @@ changeRow d (PutIn A) = (22, A ∈ d .own .putIn)
 changeRow d (TakeOut A) = (23, A ∉ d .own .putIn)
 
 abbrev pub changeRows : State → Change → List Row
-changeRows d c = (20, NoBook d) ∷ (21, NotBelow d (literalIn c)) ∷ changeRow d c ∷ []
+changeRows d c = (20, NoBook d) ∷ (21, NotBelow d (itsLiteral c)) ∷ changeRow d c ∷ []
 
 -- 24: the lesson is contradictory
 abbrev pub verdictRows : State → ℕ → List Row

@@ -88,9 +88,9 @@ inOrder b A said = ifLoaded b (cond (inBook b A) said (refused 21))
 pub data Ack : Type 0 where
   acknowledged : Ack
 
-abbrev pub literalIn : Change → ℕ
-literalIn (PutIn A) = A
-literalIn (TakeOut A) = A
+abbrev pub itsLiteral : Change → ℕ
+itsLiteral (PutIn A) = A
+itsLiteral (TakeOut A) = A
 
 -- by whether the literal is put in now: then 22 turns putting in down, and otherwise 23 taking out
 abbrev pub changeFits : Change → Bool → Said Ack
@@ -98,7 +98,7 @@ changeFits (PutIn A) now = cond now (refused 22) (gives acknowledged)
 changeFits (TakeOut A) now = cond now (gives acknowledged) (refused 23)
 
 unfoldable pub changeSays : State → Change → Said Ack
-changeSays d c = inOrder (d .book) (literalIn c) (changeFits c (d .own .putIn (literalIn c)))
+changeSays d c = inOrder (d .book) (itsLiteral c) (changeFits c (d .own .putIn (itsLiteral c)))
 
 -- putting in a literal adds it to the set, taking it out removes it
 abbrev pub changedSet : Change → Set → Set

@@ -5,7 +5,7 @@ ghost use Prim.Native.Nat.{_<_};
 ghost use Rattle.litset.specs.Words.{capacity, setOf};
 ghost use Rattle.book.specs.Book.{programOf};
 ghost use Rattle.search.specs.Questions.{treeOf, questionOf};
-ghost use Rattle.lesson.specs.State.{acknowledged, gives, inOrder, inForce, literalIn, changeFits, changeSays, changedSet};
+ghost use Rattle.lesson.specs.State.{acknowledged, gives, inOrder, inForce, itsLiteral, changeFits, changeSays, changedSet};
 ghost use Rattle.lesson.specs.Calls.{shelfOf, ownOf, meaningOf, numberSays, Begins, ModelAfter, Changes, GivesVerdict, Searches, GivesModel, Lists};
 use book::Book;
 use fixpoint::Model;
@@ -118,8 +118,8 @@ fn state_refusal(s: Shelf, literal: usize) -> u8
 
 // ---- putting in and taking out
 
-fn literal_in(change: Change) -> usize
-    ensures { λ r. ⌜ r ≡ literalIn change ⌝ }
+fn literal_of(change: Change) -> usize
+    ensures { λ r. ⌜ r ≡ itsLiteral change ⌝ }
 {
     match change {
         Change::PutIn(literal) => literal,
@@ -141,7 +141,7 @@ fn change_fits(change: Change, now_in: bool) -> u8
 fn change_refusal(s: Shelf, l: Lesson, change: Change) -> u8
     ensures { λ r. ⌜ numberSays r ≡ changeSays (meaningOf s l) change ⌝ }
 {
-    let literal = literal_in(change);
+    let literal = literal_of(change);
     let number = state_refusal(s, literal);
     if number != 0 {
         return number;
@@ -151,7 +151,7 @@ fn change_refusal(s: Shelf, l: Lesson, change: Change) -> u8
 
 // The literals put in after a change.
 fn changed_facts(facts: LitSet, change: Change) -> LitSet
-    requires { ⌜ literalIn change < capacity ⌝ }
+    requires { ⌜ itsLiteral change < capacity ⌝ }
     ensures { λ r. ⌜ setOf (r .words) ≡ changedSet change (setOf (facts .words)) ⌝ }
 {
     match change {

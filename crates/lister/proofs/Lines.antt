@@ -20,7 +20,7 @@ use Rattle.litset.specs.declared.Clash.{Clash}
 use Rattle.litset.specs.declared.Clash.the-variants.{None, Name}
 use Rattle.scan.specs.Text.{comma, newline, maxLength}
 use Rattle.book.proofs.Names.{names-count, name-most, name-short, rules-counted}
-use Rattle.lister.specs.Listing.{modelWord, contradictionWord, refusedWord, verdictWord, digits, field, line, nameLine, nameLines, listingBy, listingBySets, verdictsBy, listingIn, refusalOf}
+use Rattle.lister.specs.Listing.{modelWord, contradictionWord, refusedWord, verdictWord, digits, field, line, nameLine, nameLines, listingBy, listingBySets, verdictsBy, listingHeld, refusalOf}
 use Rattle.lister.specs.Steps.{Room, Put, countsTo, verdictsEnd}
 use Rattle.lister.proofs.Stored.{room-first, Left, left-step, left-none}
 use Rattle.lister.proofs.Digits.{digits-most}
@@ -67,17 +67,17 @@ module _ (names : List (List ℕ)) (rules facts : ℕ) (v : ℕ → Verdict) whe
 -- the same by the counts that the code has
 module _ (b : Book) (facts : LitSet) (m : Model) {names rules putIn : ℕ} (ns : names ≡ clamp maxNames (b .names)) (rs : rules ≡ clamp maxRules (b .rules))
     (fs : putIn ≡ length (members capacity (setOf (facts .words)))) where
-  by-counts : (c : Clash) → clashIn (setOf (m .truths .words)) ≡ c → listingIn b facts m ≡ listingBy (namesIn (b .text) (b .lengths) names) rules putIn (verdictsBy m) c
+  by-counts : (c : Clash) → clashIn (setOf (m .truths .words)) ≡ c → listingHeld b facts m ≡ listingBy (namesIn (b .text) (b .lengths) names) rules putIn (verdictsBy m) c
   unfolding listingBySets
   by-counts c e = rw (ns, rs, fs, e, rules-counted b)
 
   pub clear-parts : clashIn (setOf (m .truths .words)) ≡ None
-      → listingIn b facts m ≡ field modelWord comma ++ (countsTo newline names rules putIn ++ nameLines (verdictsBy m) 0 (namesIn (b .text) (b .lengths) names))
+      → listingHeld b facts m ≡ field modelWord comma ++ (countsTo newline names rules putIn ++ nameLines (verdictsBy m) 0 (namesIn (b .text) (b .lengths) names))
   clear-parts e =
       by-counts None e ∙ clear-is (namesIn (b .text) (b .lengths) names) rules putIn (verdictsBy m) ∙ rw (names-count (b .text) (b .lengths) names)
 
   pub clash-parts : (k : ℕ) → clashIn (setOf (m .truths .words)) ≡ Name k
-      → listingIn b facts m ≡ field contradictionWord comma ++ (countsTo comma names rules putIn ++ field (getD (namesIn (b .text) (b .lengths) names) k []) newline)
+      → listingHeld b facts m ≡ field contradictionWord comma ++ (countsTo comma names rules putIn ++ field (getD (namesIn (b .text) (b .lengths) names) k []) newline)
   clash-parts k e =
       by-counts (Name k) e ∙ clash-is (namesIn (b .text) (b .lengths) names) rules putIn (verdictsBy m) k ∙ rw (names-count (b .text) (b .lengths) names)
 
@@ -170,7 +170,7 @@ module _ (text lengths : List ℕ) (n rules facts : ℕ) (v : ℕ → Verdict) (
             );
       }
 
-pub listing-room : (b : Book) (facts : LitSet) (m : Model) → Room (listingIn b facts m) 0
+pub listing-room : (b : Book) (facts : LitSet) (m : Model) → Room (listingHeld b facts m) 0
 unfolding listingBySets
 listing-room b facts m =
     room-by (b .text) (b .lengths) (clamp maxNames (b .names)) (length (rulesOf b)) (length (members capacity (setOf (facts .words)))) (verdictsBy m)

@@ -106,8 +106,8 @@ abbrev pub verdictsBy : Model → ℕ → Verdict
 verdictsBy m A = verdictIn (setOf (m .truths .words)) (setOf (m .nonfalse .words)) A
 
 -- the listing by what is held in memory, whatever its bits
-abbrev pub listingIn : Book → LitSet → Model → List ℕ
-listingIn b facts m = listingBySets (namesOf b) (rulesOf b) (setOf (facts .words)) (setOf (m .truths .words)) (setOf (m .nonfalse .words))
+abbrev pub listingHeld : Book → LitSet → Model → List ℕ
+listingHeld b facts m = listingBySets (namesOf b) (rulesOf b) (setOf (facts .words)) (setOf (m .truths .words)) (setOf (m .nonfalse .words))
 
 -- ---- a refusal
 

@@ -6,7 +6,7 @@ ghost use lib.ListN.{getD};
 ghost use Rattle.book.specs.Limits.{maxNames};
 ghost use Rattle.book.specs.Book.{nameAt, namesIn};
 ghost use Rattle.scan.specs.Text.{newline};
-ghost use Rattle.lister.specs.Listing.{verdictWord, digits, field, nameLine, nameLines, verdictsBy, listingIn, refusalOf};
+ghost use Rattle.lister.specs.Listing.{verdictWord, digits, field, nameLine, nameLines, verdictsBy, listingHeld, refusalOf};
 ghost use Rattle.lister.specs.Buffer.{Writes};
 ghost use Rattle.lister.specs.Steps.{Room, Put, countsTo, verdictsEnd};
 use book::Book;
@@ -159,7 +159,7 @@ fn put_name_end<'a>(
 // ---- the listing, from the start of a buffer on
 
 fn put_listing(t: &mut [u8], book: Book, facts: LitSet, model: Model) -> usize
-    ensures { λ r. ⌜ Put (listingIn book facts model) 0 (now (t .entry)) (now (t .exit)) r ⌝ }
+    ensures { λ r. ⌜ Put (listingHeld book facts model) 0 (now (t .entry)) (now (t .exit)) r ⌝ }
 {
     let names = book::name_count(book);
     let rules = book::rule_count(book);
@@ -191,7 +191,7 @@ fn put_refusal(t: &mut [u8], number: u8, line: usize) -> usize
 
 // The listing of a book, the facts put in and a model of them.
 pub fn write(book: Book, facts: LitSet, model: Model, buffer: &mut [u8]) -> Written
-    ensures { λ r. ⌜ Writes (listingIn book facts model) (now (buffer .entry)) r (now (buffer .exit)) ⌝ }
+    ensures { λ r. ⌜ Writes (listingHeld book facts model) (now (buffer .entry)) r (now (buffer .exit)) ⌝ }
 {
     let mut tried = [0u8; 1];
     let length = put_listing(&mut tried, book, facts, model);

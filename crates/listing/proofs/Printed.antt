@@ -20,7 +20,7 @@ use Rattle.lesson.specs.declared.ListingAnswer.the-variants as listing
 use Rattle.lesson.proofs.Order.{given-refused}
 use Rattle.lesson.proofs.Standing.{listing-begun}
 use Rattle.desk.specs.Calls.{Fresh, Loads}
-use Rattle.desk.specs.Runs.{load, nothing, reads, left, Run}
+use Rattle.desk.specs.Runs.{load, nothing, afterLoad, left, Run}
 use Rattle.desk.specs.declared.Desk.{Desk}
 use Rattle.desk.specs.declared.LoadReply.{LoadReply}
 use Rattle.desk.proofs.LoadLaws.{load-was-accepted, load-was-refused}
@@ -45,7 +45,7 @@ module _ (file : List ℕ) (start : Desk) (f : Fresh start) (q : LoadReply) (h :
   accepted-printed told a lists count =
       let was = load-was-accepted start file q (readFile file) h told in
       let cs = load file ∷ [] in
-      let here : left cs ≡ reads nothing (accepted (was .0) (was .1)) = ap (reads nothing) (was .2) in
+      let here : left cs ≡ afterLoad nothing (accepted (was .0) (was .1)) = ap (afterLoad nothing) (was .2) in
       let bytes : listingIn (left cs) ≡ printed (readFile file) = ap listingIn here ∙ listing-begun (was .0) (was .1) ∙ ap printed (sym (was .2)) in
       let some : NoBook (left cs) → ⊥ = λ none. true≢false (sym (ap noneLoaded (sym (ap (λ (d : State). d .book) here) ∙ none))) in
       let run : Run start cs (q .desk) = (q, h, refl) in

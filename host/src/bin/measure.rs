@@ -7,6 +7,7 @@ use mezhkura::gen::{self, Random};
 use mezhkura::second;
 use std::env;
 use std::hint::black_box;
+use std::io::{self, Write};
 use std::process::{Command, ExitCode, Stdio};
 use std::thread;
 use std::time::{Duration, Instant};
@@ -21,8 +22,10 @@ fn main() -> ExitCode {
             print_stack();
         }
         ["stack", call, stack] => call_on(call, stack.parse().expect("a number of bytes")),
+        ["file", "random"] => print_file(&full_file(1)),
+        ["file", "chain"] => print_file(&chain_file()),
         _ => {
-            eprintln!("usage: measure");
+            eprintln!("usage: measure, or measure file random, or measure file chain");
             return ExitCode::FAILURE;
         }
     }
@@ -51,7 +54,7 @@ fn samples() -> Vec<Sample> {
         ),
         (
             "full: 128 names, 508 rules, each name unless the next",
-            gen::long_model_book().to_file().into_bytes(),
+            chain_file(),
         ),
     ];
     files
@@ -78,6 +81,16 @@ fn other_examples() -> [Sample; 2] {
 fn full_file(seed: u64) -> Vec<u8> {
     let book = gen::full_book(&mut Random::new(seed));
     book.to_file().into_bytes()
+}
+
+/// The book whose model takes most rounds: each name unless the next.
+fn chain_file() -> Vec<u8> {
+    gen::long_model_book().to_file().into_bytes()
+}
+
+/// Prints a sample's file, for a program that measures the calls from C.
+fn print_file(file: &[u8]) {
+    io::stdout().write_all(file).expect("the file is printed");
 }
 
 fn deep_file() -> Vec<u8> {

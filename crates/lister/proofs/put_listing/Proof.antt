@@ -8,7 +8,7 @@ use Rattle.book.specs.Book.{namesIn}
 use Rattle.book.specs.Limits.{maxNames}
 use Rattle.book.proofs.Counts.{clamp-most}
 use Rattle.scan.specs.Text.{comma, newline}
-use Rattle.lister.specs.Listing.{modelWord, contradictionWord, field, nameLines, verdictsBy, listingIn}
+use Rattle.lister.specs.Listing.{modelWord, contradictionWord, field, nameLines, verdictsBy, listingHeld}
 use Rattle.lister.specs.Steps.{Room, countsTo}
 use Rattle.lister.proofs.Stored.{put-then, room-second, room-third}
 use Rattle.lister.proofs.Lines.{clear-parts, clash-parts, listing-room}
@@ -45,7 +45,7 @@ abbrev at-header-2 : tie.After-put-name-end → tie.After-put-counts2
 at-header-2 c = c .before .before .before .before .before .before .before .before .before
 
 abbrev whole : tie.After-count → List ℕ
-whole c = listingIn (at-start c .args .t2) (at-start c .args .facts) (at-start c .args .model)
+whole c = listingHeld (at-start c .args .t2) (at-start c .args .facts) (at-start c .args .model)
 
 abbrev header : tie.After-count → ℕ → List ℕ
 header c stop = countsTo stop (c .before .before .name-count .result) (c .before .rule-count .result) (c .count .result)
