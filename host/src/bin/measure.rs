@@ -248,11 +248,8 @@ fn second_in_and_out(desk: &mut second::Desk) {
 
 fn print_searches() {
     println!();
-    println!(
-        "| book | questions | mean, µs | most, µs | model call, µs | mean / model call | change, µs \
-         | mean / change |"
-    );
-    println!("|---|---|---|---|---|---|---|---|");
+    println!("| book | questions | mean, µs | most, µs | change, µs | mean / change |");
+    println!("|---|---|---|---|---|---|");
     for sample in samples().into_iter().chain(other_examples()) {
         print_questions(sample.label, &[sample.file]);
     }
@@ -261,19 +258,17 @@ fn print_searches() {
     print_questions("full: 20 random books, seeds 1 to 20", &full);
 }
 
-/// A row for all questions of some books, beside the model calls and the changes of the same books.
+/// A row for all questions of some books, beside the changes of the same books.
 fn print_questions(label: &str, files: &[Vec<u8>]) {
     let all: Vec<Times> = files.iter().map(|file| times_of_questions(file)).collect();
     let of_questions = all.iter().flat_map(|times| &times.questions);
     let questions: Vec<Duration> = of_questions.map(|(_, time)| *time).collect();
     let most = micros(*questions.iter().max().expect("a book has questions"));
     let mean = mean_micros(questions.iter().copied());
-    let model = mean_micros(all.iter().map(|times| times.model));
     let change = mean_micros(all.iter().map(|times| times.change));
     println!(
-        "| {label} | {} | {mean:.2} | {most:.2} | {model:.2} | {} | {change:.2} | {} |",
+        "| {label} | {} | {mean:.2} | {most:.2} | {change:.2} | {} |",
         questions.len(),
-        ratio(mean, model),
         ratio(mean, change)
     );
 }
@@ -283,17 +278,15 @@ fn mean_micros(times: impl ExactSizeIterator<Item = Duration>) -> f64 {
     micros(times.sum()) / count
 }
 
-/// What the questions of a book take, and two calls beside them.
+/// What the questions of a book take, and a change beside them.
 struct Times {
     questions: Vec<(Question, Duration)>,
-    /// The model call, which reads the sets that stand.
-    model: Duration,
-    /// Half of putting in and taking out, each of which works the sets out.
+    /// Half of putting in and taking out, each of which works the model out.
     change: Duration,
 }
 
-/// The time of each question T and TU of a book's literals, and those of the calls beside them: the least
-/// of five means, in turns.
+/// The time of each question T and TU of a book's literals, and that of a change: the least of five
+/// means, in turns.
 fn times_of_questions(file: &[u8]) -> Times {
     let mut desk = Desk::fresh();
     desk.load(file).expect("the book loads");
@@ -302,7 +295,6 @@ fn times_of_questions(file: &[u8]) -> Times {
     let questions = (0..book.literals()).flat_map(both);
     let mut times = Times {
         questions: questions.map(|asked| (asked, Duration::MAX)).collect(),
-        model: Duration::MAX,
         change: Duration::MAX,
     };
     for _ in 0..5 {
@@ -310,8 +302,6 @@ fn times_of_questions(file: &[u8]) -> Times {
             let mut ask = || desk.search(black_box(*question));
             *least = mean_of(RUNS_OF_A_QUESTION, &mut ask).min(*least);
         }
-        let model = mean_of(RUNS_OF_A_CALL, &mut || desk.model());
-        times.model = model.min(times.model);
         let changes = mean_of(RUNS_OF_A_CALL, &mut || put_in_and_out(&mut desk));
         times.change = (changes / 2).min(times.change);
     }
