@@ -75,7 +75,7 @@ pub enum ListingAnswer {
 
 // ---- the lesson
 
-// The facts in force.
+// The facts in force: those put in.
 fn in_force(l: Lesson) -> LitSet
     ensures { λ r. ⌜ setOf (r .words) ≡ inForce (ownOf l) ⌝ }
 {
@@ -149,8 +149,8 @@ fn change_refusal(s: Shelf, l: Lesson, change: Change) -> u8
     change_fits(change, litset::contains(l.facts, literal))
 }
 
-// The literals put in after a change.
-fn changed_facts(facts: LitSet, change: Change) -> LitSet
+// The facts put in, after a change.
+fn facts_after(facts: LitSet, change: Change) -> LitSet
     requires { ⌜ itsLiteral change < capacity ⌝ }
     ensures { λ r. ⌜ setOf (r .words) ≡ changedSet change (setOf (facts .words)) ⌝ }
 {
@@ -171,7 +171,7 @@ pub fn change_facts(s: Shelf, l: Lesson, change: Change) -> ChangeReply
             lesson: l,
         };
     }
-    let facts = changed_facts(l.facts, change);
+    let facts = facts_after(l.facts, change);
     let mut m = l;
     m.facts = facts;
     let model = model_with(s.book, l, in_force(m));

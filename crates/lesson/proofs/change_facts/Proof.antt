@@ -10,8 +10,8 @@ change-refusal-requires c κs = search needs
 returns : tie.Need-returns
 returns c = change-refused _ _ _ _ (c .before .change-refusal .ensures) (c .if1 .taken)
 
-changed-facts-requires : tie.Need-changed-facts-requires
-changed-facts-requires c κs = change-room _ _ _ _ (c .before .change-refusal .ensures) (c .if1 .left)
+facts-after-requires : tie.Need-facts-after-requires
+facts-after-requires c κs = change-room _ _ _ _ (c .before .change-refusal .ensures) (c .if1 .left)
 
 in-force-requires : tie.Need-in-force-requires
 in-force-requires c κs = search needs
@@ -22,8 +22,8 @@ model-with-requires c κs = search needs
 returns-2 : tie.Need-returns-2
 returns-2 c =
     let made = c .before .before in
-    change-done _ _ _ _ (made .before .before .change-refusal .ensures) (made .before .if1 .left) (made .changed-facts .result) (c .model-with .result)
-    (made .changed-facts .ensures) _ (c .before .in-force .ensures) (c .model-with .ensures)
+    change-done _ _ _ _ (made .before .before .change-refusal .ensures) (made .before .if1 .left) (made .facts-after .result) (c .model-with .result)
+    (made .facts-after .ensures) _ (c .before .in-force .ensures) (c .model-with .ensures)
 
 pub change-facts-spec : {M : Type 1} → statement M
 change-facts-spec =
@@ -31,7 +31,7 @@ change-facts-spec =
     (tie.spec
     change-refusal-requires
     returns
-    changed-facts-requires
+    facts-after-requires
     in-force-requires
     model-with-requires
     returns-2)

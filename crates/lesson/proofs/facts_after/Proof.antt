@@ -1,8 +1,8 @@
--- `changed_facts`: a literal that is put in has room in the set.
+-- `facts_after`: a literal that is put in has room in the set.
 use borrow.Author.Needs.{needs}
 use Rattle.lesson.proofs.Replies.{put-in-set, taken-out-set}
-use Rattle.lesson.proofs.changed_facts.Statement.{statement}
-use Rattle.lesson.proofs.changed_facts.Tie as tie
+use Rattle.lesson.proofs.facts_after.Statement.{statement}
+use Rattle.lesson.proofs.facts_after.Tie as tie
 
 enum-known-change : tie.Need-enum-known-change
 enum-known-change c = search needs
@@ -24,8 +24,8 @@ returns c =
 returns-2 : tie.Need-returns-2
 returns-2 c = taken-out-set _ _ _ _ (c .before .before .change2 .given .1) (c .remove .ensures)
 
-pub changed-facts-spec : {M : Type 1} → statement M
-changed-facts-spec =
+pub facts-after-spec : {M : Type 1} → statement M
+facts-after-spec =
     tie.close
     (tie.spec
     enum-known-change
