@@ -1,4 +1,4 @@
--- The definitions give what document 01 says of cases 1 to 11: both sides of the equation compute to the same table.
+-- The definitions give what the table says of cases 1 to 11 and of a file of no bytes: both sides of the equation compute to the same table.
 use mathlib.Core.Path.{_≡_, refl}
 use mathlib.Core.List.{map}
 use Rattle.wfsx.specs.Sets.{membersFrom}

@@ -1,5 +1,5 @@
--- Document 01, "Short books to hold against it": cases 1 to 11 as one table of data. Each has the calls, and what the listing, the verdicts and the
--- searches give after them. Bytes stand as numbers, with their text above them, lines parted by ` / `.
+-- Document 01, "Short books to hold against it": cases 1 to 11 as one table of data, and the file of no bytes (document 02, A.4) among them. Each has the
+-- calls, and what the listing, the verdicts and the searches give after them. Bytes stand as numbers, with their text above them, lines parted by ` / `.
 use mathlib.Core.Bool.{Bool, true, false}
 use mathlib.Core.List.{List, [], _∷_, map}
 use Prim.Native.Nat.{ℕ}
@@ -180,6 +180,16 @@ case-10 =
       answers = [];
     }
 
+-- a file of no bytes: lists as case 10
+abbrev case-no-bytes : Case
+case-no-bytes =
+    record {
+      calls = load [] ∷ [];
+      listing = case-10 .listing;
+      verdicts = [];
+      answers = [];
+    }
+
 -- 11, put in: lists contradiction,2,3,1,a
 abbrev case-11-put-in : Case
 case-11-put-in =
@@ -202,4 +212,4 @@ case-11-taken-out =
 
 abbrev pub cases : List Case
 cases =
-    case-1 ∷ case-2 ∷ case-3 ∷ case-4 ∷ case-5 ∷ case-6 ∷ case-7 ∷ case-8 ∷ case-9 ∷ case-10 ∷ case-11-put-in ∷ case-11-taken-out ∷ []
+    case-1 ∷ case-2 ∷ case-3 ∷ case-4 ∷ case-5 ∷ case-6 ∷ case-7 ∷ case-8 ∷ case-9 ∷ case-10 ∷ case-no-bytes ∷ case-11-put-in ∷ case-11-taken-out ∷ []

@@ -3,20 +3,22 @@
 -- before the first faulty one are read one by one.
 use mathlib.Core.Path.{_≡_, refl, sym, ap, _∙_, subst}
 use mathlib.Core.Logic.{_⊎_, inl, inr, ⊎-elim, _↔_}
-use mathlib.Core.Bool.{Bool, true, false, not, cond}
+use mathlib.Core.Bool.{Bool, true, false, not, cond, true≢false}
 use mathlib.Core.List.{List, [], _∷_, _++_, append-nil}
 use Prim.Native.Nat.{ℕ, suc, _+_, _≤_, _<_}
 use native.Mathlib.Omega.{arith}
 use lib.Dec.{eqb, ltb}
-use lib.ListN.{length, take, drop}
-use borrow.Author.Tests.{eqb-true, eqb-false, eq-eqb, ne-eqb}
+use lib.ListN.{length, take, drop, length-append}
+use borrow.Author.Tests.{eqb-true, eqb-false, eq-eqb, ne-eqb, leb-true, leb-false, le-leb}
 use Rattle.wfsx.specs.Program.{Rule}
 use Rattle.scan.specs.Text.{isText, allBytes, fields, wordOf, comma}
 use Rattle.scan.proofs.Places.{split-some}
-use Rattle.reader.specs.File.{Content, nothingYet, wrongFields, malformed, declaredBefore, usesUndeclared, beyondTable, _when_else_, faultOf, lineFault, withLine, Outcome, accepted, refused, readLines, maxBytes, unended, linesOf, readFile}
-use Rattle.reader.specs.Conditions.{TooLong, StrangeByte, LastLineOpen, AfterEnd, FieldsWrong, FormWrong, NameTaken, NameMissing, TableFull, fileRows, fieldRows, None, First, _unless_, saidBy, NoFaults, Judged, OnLine, Through, NoEnd, IsRefused, IsAccepted}
+use Rattle.reader.specs.File.{Content, nothingYet, wrongFields, malformed, declaredBefore, usesUndeclared, beyondTable, _when_else_, faultOf, lineFault, withLine, Outcome, accepted, refused, readLines, maxBytes, hasBytes, unended, linesOf, readFile}
+use Rattle.reader.specs.Conditions.{TooLong, StrangeByte, HasBytes, LastLineOpen, AfterEnd, FieldsWrong, FormWrong, NameTaken, NameMissing, TableFull, fileRows, fieldRows, None, First, _unless_, saidBy, NoFaults, Judged, OnLine, Through, NoEnd, IsRefused, IsAccepted}
+use Rattle.reader.proofs.Faults.{no-entries}
 use Rattle.reader.proofs.Lines.{Faultless, lines-read}
 use Rattle.reader.proofs.Order.{Gives, no-row, some-row, gives-row, gives-none, gives-first, gives-some, first-between, absent, first-absent, first-row}
+use Rattle.reader.proofs.Whole.{no-bytes}
 use Rattle.reader.proofs.Tests.{too-long, strange-byte, last-open, fields-wrong, form-wrong, name-taken, name-missing, table-full}
 
 -- ---- the number of a line
@@ -109,16 +111,29 @@ lines-refused d at (line ∷ lines) k p e =
 fileFault : List ℕ → ℕ
 fileFault file = 1 when ltb maxBytes (length file) else 2 when not (allBytes isText file) else 3 when unended file else 0
 
+-- a file that has a line, or says `end`, has bytes
+has-line : (file : List ℕ) (before : List (List ℕ)) (line : List ℕ) (after : List (List ℕ)) → linesOf file ≡ before ++ line ∷ after → HasBytes file
+has-line [] before line after e = absurd (omega (arith, ap length e, length-append before (line ∷ after)))
+has-line (b ∷ bs) before line after e = omega arith
+
+has-end : (file : List ℕ) → saidBy nothingYet (linesOf file) .ended ≡ true → HasBytes file
+has-end [] e = absurd (true≢false (sym e))
+has-end (b ∷ bs) e = omega arith
+
 module _ (file : List ℕ) where
+  -- where none of 1 to 3 is met
+  abbrev passed : Outcome
+  passed = cond (hasBytes file) (readLines nothingYet 1 (linesOf file)) (accepted [] [])
+
   file-gives : Gives (fileFault file) (fileRows file)
   unfolding fileFault
   file-gives =
       gives-row 1 _ (ltb maxBytes (length file)) (too-long file) (λ _.
       gives-row 2 _ (not (allBytes isText file)) (strange-byte file) (λ _. gives-row 3 _ (unended file) (last-open file) (λ _. no-row refl tt)))
 
-  readFile-is : readFile file ≡ cond (eqb (fileFault file) 0) (readLines nothingYet 1 (linesOf file)) (refused (fileFault file) 0)
+  readFile-is : readFile file ≡ cond (eqb (fileFault file) 0) passed (refused (fileFault file) 0)
   unfolding readFile fileFault
-  readFile-is = go (ltb maxBytes (length file)) (not (allBytes isText file)) (unended file) (readLines nothingYet 1 (linesOf file))
+  readFile-is = go (ltb maxBytes (length file)) (not (allBytes isText file)) (unended file) passed
     where
       go : (a b c : Bool) (o : Outcome)
           → cond a (refused 1 0) (cond b (refused 2 0) (cond c (refused 3 0) o))
@@ -128,45 +143,61 @@ module _ (file : List ℕ) where
       go false false true o = refl
       go false false false o = refl
 
-  file-passes : None (fileRows file) → readFile file ≡ readLines nothingYet 1 (linesOf file)
-  file-passes n = readFile-is ∙ rw (gives-none (fileFault file) (fileRows file) refl file-gives .1 n)
+  file-passes : HasBytes file → None (fileRows file) → readFile file ≡ readLines nothingYet 1 (linesOf file)
+  file-passes some n = readFile-is ∙ rw (gives-none (fileFault file) (fileRows file) refl file-gives .1 n, le-leb 1 (length file) some)
 
   file-stops : (k : ℕ) → First k (fileRows file) → readFile file ≡ refused k 0
   file-stops k f =
       let some-number = first-between 1 9 k (fileRows file) refl f .0 in
       readFile-is ∙ rw (gives-first (fileFault file) (fileRows file) refl file-gives k f, ne-eqb k 0 (λ z. omega arith))
 
-  -- a file is judged by 1 to 3, or else by its lines
-  file-judged : ((k : ℕ) × First k (fileRows file) × (readFile file ≡ refused k 0))
-      ⊎ (None (fileRows file) × (readFile file ≡ readLines nothingYet 1 (linesOf file)))
+  abbrev ByFile : Type 0
+  ByFile = (k : ℕ) × First k (fileRows file) × (readFile file ≡ refused k 0)
+
+  abbrev ByLines : Type 0
+  ByLines = HasBytes file × None (fileRows file) × (readFile file ≡ readLines nothingYet 1 (linesOf file))
+
+  abbrev ByNothing : Type 0
+  ByNothing = (file ≡ []) × (readFile file ≡ accepted [] [])
+
+  -- a file is judged by 1 to 3, or else by its lines, or it has no bytes
+  file-judged : ByFile ⊎ ByLines ⊎ ByNothing
   file-judged = go file-gives
     where
-      go : Gives (fileFault file) (fileRows file)
-          → ((k : ℕ) × First k (fileRows file) × (readFile file ≡ refused k 0)) ⊎ (None (fileRows file) × (readFile file ≡ readLines nothingYet 1 (linesOf file)))
-      go (no-row z n) = inr (n, file-passes n)
+      by-bytes : (t : Bool) → hasBytes file ≡ t → None (fileRows file) → ByFile ⊎ ByLines ⊎ ByNothing
+      by-bytes true h n = let some = leb-true 1 (length file) h in inr (inl (some, n, file-passes some n))
+      by-bytes false h n =
+          let none = no-entries file (omega (arith, leb-false 1 (length file) h)) in
+          inr (inr (none, ap readFile none ∙ no-bytes))
+
+      go : Gives (fileFault file) (fileRows file) → ByFile ⊎ ByLines ⊎ ByNothing
+      go (no-row z n) = by-bytes (hasBytes file) refl n
       go (some-row f) = inl (fileFault file, f, file-stops (fileFault file) f)
 
   -- ---- refusal and acceptance
 
   refused-is : (k at : ℕ) → readFile file ≡ refused k at → IsRefused file k at
-  refused-is k at e = ⊎-elim by-file by-lines file-judged
+  refused-is k at e = ⊎-elim by-file (⊎-elim by-lines by-nothing) file-judged
     where
-      by-file : (n : ℕ) × First n (fileRows file) × (readFile file ≡ refused n 0) → IsRefused file k at
+      by-file : ByFile → IsRefused file k at
       by-file s =
           let same : refused (s .0) 0 ≡ refused k at = sym (s .2) ∙ e in
           let number : s .0 ≡ k = cc in
           let there : at ≡ 0 = cc in
           inl (there, subst (λ (n : ℕ). First n (fileRows file)) number (s .1))
 
-      by-lines : None (fileRows file) × (readFile file ≡ readLines nothingYet 1 (linesOf file)) → IsRefused file k at
-      by-lines s = go (lines-refused nothingYet 1 (linesOf file) k at (sym (s .1) ∙ e))
+      by-nothing : ByNothing → IsRefused file k at
+      by-nothing s = let q = s .1 in let z : _≡_ {A = ℕ} 0 1 = cc in absurd (omega arith)
+
+      by-lines : ByLines → IsRefused file k at
+      by-lines s = go (lines-refused nothingYet 1 (linesOf file) k at (sym (s .2) ∙ e))
         where
           go : Stops nothingYet 1 (linesOf file) k at → IsRefused file k at
           go (inl r) =
               let place = r .4 in
               let judged : Judged file at (saidBy nothingYet (r .0)) (fields (r .1)) =
               record {
-                file-passed = s .0;
+                file-passed = s .1;
                 before = r .0;
                 line = r .1;
                 after = r .2;
@@ -179,8 +210,8 @@ module _ (file : List ℕ) where
               inr (inl (saidBy nothingYet (r .0), fields (r .1), judged, r .6))
           go (inr r) =
               let place = r .1 in
-              let through : Through file at (saidBy nothingYet (linesOf file)) = record { file-passed = s .0; place = omega arith; sound = faultless-is nothingYet (linesOf file) .0 (r .2); said = refl } in
-              inr (inr (r .0, (saidBy nothingYet (linesOf file), through, r .3)))
+              let through : Through file at (saidBy nothingYet (linesOf file)) = record { file-passed = s .1; place = omega arith; sound = faultless-is nothingYet (linesOf file) .0 (r .2); said = refl } in
+              inr (inr (r .0, (s .0, saidBy nothingYet (linesOf file), through, r .3)))
 
   is-refused : (k at : ℕ) → IsRefused file k at → readFile file ≡ refused k at
   unfolding readLines
@@ -191,38 +222,43 @@ module _ (file : List ℕ) where
       let now = saidBy nothingYet (j .before) in
       let found : First k (fieldRows now (fields (j .line))) = rw (j .said, j .its-fields) (s .3) in
       let place : 1 + length (j .before) ≡ at = omega arith in
-      file-passes (j .file-passed) ∙ ap (readLines nothingYet 1) (j .parts) ∙ lines-skip nothingYet 1 (j .before) (j .line ∷ j .after) start
+      file-passes (has-line file (j .before) (j .line) (j .after) (j .parts)) (j .file-passed) ∙ ap (readLines nothingYet 1) (j .parts) ∙ lines-skip nothingYet 1 (j .before) (j .line ∷ j .after) start
       ∙ lines-stop now (1 + length (j .before)) k (j .line) (j .after) found ∙ ap (refused k) place
   is-refused k at (inr (inr s)) =
-      let t = s .1 .1 in
+      let t = s .1 .2 in
       let start = faultless-is nothingYet (linesOf file) .1 (t .sound) in
       let place : 1 + length (linesOf file) ≡ at = omega arith in
-      let last : saidBy nothingYet (linesOf file) .ended ≡ false = rw (t .said) (s .1 .2) in
-      file-passes (t .file-passed) ∙ lines-through nothingYet 1 (linesOf file) start ∙ rw (last, place, s .0)
+      let last : saidBy nothingYet (linesOf file) .ended ≡ false = rw (t .said) (s .1 .3) in
+      file-passes (s .1 .0) (t .file-passed) ∙ lines-through nothingYet 1 (linesOf file) start ∙ rw (last, place, s .0)
 
   pub refused-exactly : (k at : ℕ) → (readFile file ≡ refused k at) ↔ IsRefused file k at
   refused-exactly k at = (refused-is k at, is-refused k at)
 
   pub accepted-exactly : (names : List (List ℕ)) (rules : List Rule) → (readFile file ≡ accepted names rules) ↔ IsAccepted file names rules
   unfolding readLines
-  accepted-exactly names rules = (λ e. ⊎-elim (by-file e) (by-lines e) file-judged, back)
+  accepted-exactly names rules = (λ e. ⊎-elim (by-file e) (⊎-elim (by-lines e) (by-nothing e)) file-judged, back)
     where
-      by-file : readFile file ≡ accepted names rules → (n : ℕ) × First n (fileRows file) × (readFile file ≡ refused n 0) → IsAccepted file names rules
+      by-file : readFile file ≡ accepted names rules → ByFile → IsAccepted file names rules
       by-file e s = let q = s .2 in let z : _≡_ {A = ℕ} 0 1 = cc in absurd (omega arith)
 
-      by-lines : readFile file ≡ accepted names rules → None (fileRows file) × (readFile file ≡ readLines nothingYet 1 (linesOf file)) → IsAccepted file names rules
+      by-lines : readFile file ≡ accepted names rules → ByLines → IsAccepted file names rules
       by-lines e s =
-          let r = lines-read nothingYet 1 (linesOf file) names rules (sym (s .1) ∙ e) in
+          let r = lines-read nothingYet 1 (linesOf file) names rules (sym (s .2) ∙ e) in
           let at = length (linesOf file) + 1 in
           let now = saidBy nothingYet (linesOf file) in
-          let through : Through file at now = record { file-passed = s .0; place = refl; sound = faultless-is nothingYet (linesOf file) .0 (r .lines-pass); said = refl } in
-          (at, now, through, r .ends, r .its-names, r .its-rules)
+          let through : Through file at now = record { file-passed = s .1; place = refl; sound = faultless-is nothingYet (linesOf file) .0 (r .lines-pass); said = refl } in
+          inl (at, now, through, r .ends, r .its-names, r .its-rules)
+
+      by-nothing : readFile file ≡ accepted names rules → ByNothing → IsAccepted file names rules
+      by-nothing e s = let q : accepted names rules ≡ accepted [] [] = sym e ∙ s .1 in inr (s .0, cc, cc)
 
       back : IsAccepted file names rules → readFile file ≡ accepted names rules
-      back s =
+      back (inl s) =
           let t = s .2 in
           let start = faultless-is nothingYet (linesOf file) .1 (t .sound) in
-          file-passes (t .file-passed) ∙ lines-through nothingYet 1 (linesOf file) start ∙ rw (t .said, s .3, s .4, s .5)
+          let last : saidBy nothingYet (linesOf file) .ended ≡ true = rw (t .said) (s .3) in
+          file-passes (has-end file last) (t .file-passed) ∙ lines-through nothingYet 1 (linesOf file) start ∙ rw (t .said, s .3, s .4, s .5)
+      back (inr s) = rw (s .1, s .2) (ap readFile (s .0) ∙ no-bytes)
 
 -- no other numbers are given
 pub refused-numbers : (file : List ℕ) (k at : ℕ) → readFile file ≡ refused k at → (1 ≤ k) × (k ≤ 9)

@@ -11,6 +11,7 @@ pub mod Answers
 pub mod Sizes
 pub mod Progress
 pub mod Whole
+pub mod NoBytes
 pub mod Short
 pub mod Order
 pub mod Tests

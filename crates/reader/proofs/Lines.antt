@@ -1,17 +1,19 @@
--- None of the lines of an accepted file is faulty, and one of them is `end`; its names and rules are what the lines say. It is the recursion of the
--- definition over the lines, read as one statement.
+-- None of the lines of an accepted file is faulty, and one of them is `end`, where it has bytes; its names and rules are what the lines say. It is the
+-- recursion of the definition over the lines, read as one statement.
 use mathlib.Core.Path.{_≡_, refl}
+use mathlib.Core.Logic.{_⊎_, inl, inr}
 use mathlib.Core.Bool.{Bool, true, false, not, cond}
 use mathlib.Core.List.{List, [], _∷_}
 use Prim.Native.Nat.{ℕ, _+_}
 use native.Mathlib.Omega.{arith}
 use lib.Dec.{eqb, ltb}
 use lib.ListN.{length}
-use borrow.Author.Tests.{eqb-true}
+use borrow.Author.Tests.{eqb-true, leb-false}
 use Rattle.wfsx.specs.Program.{Rule}
 use Rattle.scan.specs.Text.{isText, allBytes, fields}
-use Rattle.reader.specs.File.{Content, nothingYet, lineFault, withLine, Outcome, accepted, refused, readLines, maxBytes, unended, linesOf, readFile}
-use Rattle.reader.specs.Conditions.{saidBy}
+use Rattle.reader.specs.File.{Content, nothingYet, lineFault, withLine, Outcome, accepted, refused, readLines, maxBytes, hasBytes, unended, linesOf, readFile}
+use Rattle.reader.specs.Conditions.{saidBy, SaysNothing}
+use Rattle.reader.proofs.Faults.{no-entries}
 
 -- none of the lines is faulty after d and the lines before it
 abbrev pub Faultless : Content → List (List ℕ) → Type 0
@@ -50,10 +52,18 @@ unrefused true k at next names rules e = let z : _≡_ {A = ℕ} 0 1 = cc in abs
 unrefused false k at next names rules e = e
 
 pub file-read : (file : List ℕ) (names : List (List ℕ)) (rules : List Rule) → readFile file ≡ accepted names rules
-    → Read nothingYet (linesOf file) names rules
+    → Read nothingYet (linesOf file) names rules ⊎ SaysNothing file names rules
 unfolding readFile
 file-read file names rules e =
     let a = unrefused (ltb maxBytes (length file)) 1 0 _ names rules e in
     let b = unrefused (not (allBytes isText file)) 2 0 _ names rules a in
     let c = unrefused (unended file) 3 0 _ names rules b in
-    lines-read nothingYet 1 (linesOf file) names rules c
+    go (hasBytes file) refl c
+  where
+    lines : Outcome
+    lines = readLines nothingYet 1 (linesOf file)
+
+    go : (t : Bool) → hasBytes file ≡ t → cond t lines (accepted [] []) ≡ accepted names rules
+        → Read nothingYet (linesOf file) names rules ⊎ SaysNothing file names rules
+    go true h q = inl (lines-read nothingYet 1 (linesOf file) names rules q)
+    go false h q = inr (no-entries file (omega (arith, leb-false 1 (length file) h)), cc, cc)

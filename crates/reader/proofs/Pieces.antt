@@ -10,7 +10,7 @@ use native.Mathlib.Decide.{ℕ-discrete}
 use lib.Dec.{eqb}
 use lib.ListN.{length, getD, take, length-append}
 use lib.Seq.{take-suc, take-length}
-use borrow.Author.Tests.{eqb-true, eqb-false, eq-eqb, ne-eqb}
+use borrow.Author.Tests.{eqb-true, eqb-false, eq-eqb, ne-eqb, le-leb}
 use Rattle.wfsx.specs.Sets.{_isIn_}
 use Rattle.scan.specs.Text.{onto, split, fields, comma, newline}
 use Rattle.scan.proofs.Places.{split-none, split-stop, split-byte, split-some}
@@ -72,19 +72,28 @@ pub fields-are : (line : List ℕ) (fs : List (List ℕ)) → (fields line ≡ f
 fields-are line fs = split-is comma line fs
 
 pub lines-are : (file : List ℕ) (lines : List (List ℕ)) → (LastLineOpen file → ⊥) → (linesOf file ≡ lines) ↔ ((closed newline lines ≡ file) × FreeOf newline lines)
-lines-are file lines shut = subst (λ (l : List ℕ). (linesOf file ≡ lines) ↔ ((closed newline lines ≡ l) × FreeOf newline lines)) put-together (split-is newline (take (length file - 1) file) lines)
+unfolding closed
+lines-are [] lines shut = (none, λ c. no-lines lines (c .0))
   where
-    some-bytes : (l : List ℕ) → (l ≡ [] → ⊥) → 0 < length l
-    some-bytes [] n = absurd (n refl)
-    some-bytes (x ∷ xs) n = omega arith
+    none : [] ≡ lines → (closed newline lines ≡ []) × FreeOf newline lines
+    none e = rw (← e) (refl, λ p m i. List·Memᴰ·not-nil m)
+
+    no-lines : (ls : List (List ℕ)) → closed newline ls ≡ [] → [] ≡ ls
+    no-lines [] e = refl
+    no-lines (l ∷ ls) e = let bad = ap length e in absurd (omega (arith, length-append l (newline ∷ closed newline ls)))
+lines-are (b ∷ bs) lines shut =
+    rw (le-leb 1 (length file) (omega arith))
+    (subst (λ (l : List ℕ). (split newline (take (length file - 1) file) ≡ lines) ↔ ((closed newline lines ≡ l) × FreeOf newline lines)) put-together (split-is newline (take (length file - 1) file) lines))
+  where
+    file : List ℕ
+    file = b ∷ bs
 
     last : Dec (getD file (length file - 1) 0 ≡ newline) → getD file (length file - 1) 0 ≡ newline
     last (yes e) = e
-    last (no n) = absurd (shut (inr n))
+    last (no n) = absurd (shut (omega arith, n))
 
     put-together : take (length file - 1) file ++ newline ∷ [] ≡ file
     put-together =
         let n = length file - 1 in
-        let more = some-bytes file (λ e. shut (inl e)) in
         let all : suc n ≡ length file = omega arith in
-        ap (λ (b : ℕ). take n file ++ b ∷ []) (sym (last (ℕ-discrete (getD file n 0) newline))) ∙ sym (take-suc file n 0 (omega arith)) ∙ ap (λ (k : ℕ). take k file) all ∙ take-length file
+        ap (λ (x : ℕ). take n file ++ x ∷ []) (sym (last (ℕ-discrete (getD file n 0) newline))) ∙ sym (take-suc file n 0 (omega arith)) ∙ ap (λ (k : ℕ). take k file) all ∙ take-length file

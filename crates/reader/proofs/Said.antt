@@ -1,5 +1,5 @@
 -- What the lines before have said, in terms of those lines: `end` has come where one of them begins with `end`, a name is declared where one of them
--- declares it, and in an accepted file `end` is the last line and no earlier one. Each line adds what its word says and takes nothing away.
+-- declares it, and in an accepted file that has bytes `end` is the last line and no earlier one. Each line adds what its word says and takes nothing away.
 use mathlib.Core.Path.{_≡_, refl, sym, ap, _∙_}
 use mathlib.Core.Logic.{_⊎_, inl, inr, ⊎-elim, _↔_}
 use mathlib.Core.Bool.{true, false, true≢false}
@@ -17,7 +17,7 @@ use Rattle.scan.specs.declared.Word.the-variants.{Name, Rule as RuleWord, End, 
 use Rattle.scan.proofs.Words.{IsWord, first-is, word-is}
 use Rattle.reader.proofs.FieldCounts.{end-fields}
 use Rattle.reader.specs.File.{Content, nothingYet, wrongFields, lineFault, extended, withLine, accepted, linesOf, readFile}
-use Rattle.reader.specs.Conditions.{_startsWith_, saidBy, closed}
+use Rattle.reader.specs.Conditions.{HasBytes, _startsWith_, saidBy, closed}
 use Rattle.reader.proofs.Faults.{line-passes}
 use Rattle.reader.proofs.Lines.{Faultless, file-read}
 use Rattle.reader.proofs.Pieces.{fields-are}
@@ -136,9 +136,9 @@ lines-end d (line ∷ next ∷ lines) u f e =
     let r = lines-end now (next ∷ lines) (open-line now (fields next) (f .1 .0)) (f .1) e in
     (line ∷ r .0, ap (λ (l : List (List ℕ)). line ∷ l) (r .1), r .2)
 
-pub end-last : (file : List ℕ) (names : List (List ℕ)) (rules : List Rule) → readFile file ≡ accepted names rules
+pub end-last : (file : List ℕ) (names : List (List ℕ)) (rules : List Rule) → HasBytes file → readFile file ≡ accepted names rules
     → (before : List (List ℕ)) × (linesOf file ≡ before ++ endWord ∷ []) × (SomeLine before (λ fs. fs startsWith endWord) → ⊥)
-end-last file names rules e =
-    let r = file-read file names rules e in
+end-last file names rules some e =
+    let r = ⊎-elim (λ r. r) (λ none. absurd (omega (arith, ap length (none .0)))) (file-read file names rules e) in
     let s = lines-end nothingYet (linesOf file) refl (r .lines-pass) (r .ends) in
     (s .0, s .1, λ l. clash (ended-is (s .0) .1 l) (s .2))

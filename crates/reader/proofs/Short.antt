@@ -2,6 +2,7 @@
 -- most 6 bytes besides its name where it is a name's, 7 besides its head's name and 3 besides the name of each body literal where it is a rule's, and 4
 -- where it is `end`; and the tables bound how many there are of each.
 use mathlib.Core.Path.{_≡_, refl, ap, _∙_}
+use mathlib.Core.Logic.{⊎-elim}
 use mathlib.Core.Bool.{Bool, true, false, not, cond}
 use mathlib.Core.List.{List, [], _∷_}
 use Prim.Native.Nat.{ℕ, zero, suc, _+_, _-_, _*_, _≤_, _<_, suc-le-suc}
@@ -9,7 +10,7 @@ use native.Mathlib.Omega.{arith}
 use native.Mathlib.Nat.{mul-suc}
 use lib.Dec.{eqb}
 use lib.ListN.{length, take, drop, length-append, length-map, length-drop, length-take}
-use borrow.Author.Tests.{eqb-false, not-false}
+use borrow.Author.Tests.{eqb-false, leb-true, leb-false, not-false}
 use Rattle.wfsx.specs.Program.{Rule}
 use Rattle.truth.proofs.Truth.{and-l, and-r, neither, clash}
 use Rattle.scan.specs.Text.{onto, split, fields, isName, wordOf, tildes, minuses, nameOf, nameWord, ruleWord, endWord, comma, newline, maxLength}
@@ -20,10 +21,10 @@ use Rattle.scan.proofs.Bytes.{name-fits}
 use Rattle.scan.proofs.Words.{IsWord, first-is}
 use Rattle.scan.proofs.Forms.{lead-most}
 use Rattle.reader.proofs.FieldCounts.{name-fields, rule-fields, end-fields, unknown-wrong}
-use Rattle.reader.specs.File.{Content, nothingYet, bodyLiterals, allFields, isLiteral, hasTilde, malformed, lineFault, entryFrom, ruleFrom, extended, withLine, accepted, maxBytes, linesOf, readFile}
+use Rattle.reader.specs.File.{Content, nothingYet, bodyLiterals, allFields, isLiteral, hasTilde, malformed, lineFault, entryFrom, ruleFrom, extended, withLine, accepted, maxBytes, hasBytes, linesOf, readFile}
 use Rattle.reader.specs.Conditions.{saidBy}
 use Rattle.reader.proofs.Faults.{Passes, line-passes}
-use Rattle.reader.proofs.Lines.{Faultless, file-read}
+use Rattle.reader.proofs.Lines.{Faultless, Read, file-read}
 use Rattle.reader.proofs.Within.{Within, within-nothing, within-lines, literals-append}
 
 -- ---- pieces, each with the stop behind it
@@ -131,10 +132,24 @@ within-weight d w = go (d .ended)
     go true = omega arith
     go false = omega arith
 
+-- a file is as long as its lines with the byte 10 behind each
+lines-total : (file : List ℕ) → byteCount (linesOf file) ≡ length file
+unfolding byteCount
+lines-total file = go (hasBytes file) refl
+  where
+    bytes : List ℕ
+    bytes = take (length file - 1) file
+
+    go : (t : Bool) → hasBytes file ≡ t → byteCount (cond t (split newline bytes) []) ≡ length file
+    go true h = let some = leb-true 1 (length file) h in omega (arith, split-total newline bytes, length-take (length file - 1) file)
+    go false h = omega (arith, leb-false 1 (length file) h)
+
 pub accepted-short : (file : List ℕ) (names : List (List ℕ)) (rules : List Rule) → readFile file ≡ accepted names rules → length file < maxBytes
 unfolding weight bodyLiterals
-accepted-short file names rules e =
-    let r = file-read file names rules e in
-    let most = within-weight (saidBy nothingYet (linesOf file)) (within-lines nothingYet (linesOf file) within-nothing (r .lines-pass)) in
-    let bytes = weight-lines nothingYet (linesOf file) (r .lines-pass) in
-    omega (arith, split-total newline (take (length file - 1) file), length-take (length file - 1) file)
+accepted-short file names rules e = ⊎-elim by-lines (λ s. omega (arith, ap length (s .0))) (file-read file names rules e)
+  where
+    by-lines : Read nothingYet (linesOf file) names rules → length file < maxBytes
+    by-lines r =
+        let most = within-weight (saidBy nothingYet (linesOf file)) (within-lines nothingYet (linesOf file) within-nothing (r .lines-pass)) in
+        let bytes = weight-lines nothingYet (linesOf file) (r .lines-pass) in
+        omega (arith, lines-total file)

@@ -20,7 +20,7 @@ use Rattle.scan.proofs.Words.{IsWord, first-is, word-is}
 use Rattle.book.specs.Limits.{maxNames, maxRules, maxEntries, maxBody}
 use Rattle.book.specs.Book.{sameName, findFrom}
 use Rattle.book.proofs.Lookup.{same-decides, find-none, find-first, find-later}
-use Rattle.reader.specs.File.{Content, bodyLiterals, allFields, isLiteral, hasTilde, isFound, declared, wrongFields, headTilde, malformed, declaredBefore, usesUndeclared, beyondTable, maxBytes, unended, isKnown}
+use Rattle.reader.specs.File.{Content, bodyLiterals, allFields, isLiteral, hasTilde, isFound, declared, wrongFields, headTilde, malformed, declaredBefore, usesUndeclared, beyondTable, maxBytes, hasBytes, unended, isKnown}
 use Rattle.reader.specs.Conditions.{LetterByte, NameByte, NameText, Optional, LiteralText, TooLong, StrangeByte, LastLineOpen, SomeField, FieldsWrong, FormWrong, Declared, NameTaken, NameMissing, TableFull}
 use Rattle.reader.proofs.Faults.{each-field, each-passes, all-pass, fails-where, no-entries}
 
@@ -39,8 +39,7 @@ strange-byte file =
 pub last-open : (file : List ℕ) → (unended file ≡ true) ↔ LastLineOpen file
 last-open file =
     let last = getD file (length file - 1) 0 in
-    or-is (eqb (length file) 0) (not (eqb last newline)) (λ e. no-entries file (eqb-true (length file) 0 e), λ e. eq-eqb (length file) 0 (ap length e))
-    (not-is (eqb last newline) (eqb-is last newline))
+    and-is (hasBytes file) (not (eqb last newline)) (leb-is 1 (length file)) (not-is (eqb last newline) (eqb-is last newline))
 
 -- ---- names and literals
 

@@ -1,12 +1,14 @@
--- The outcome of a whole file by the tests of numbers 1 to 3 in their order, or else by its lines.
-use mathlib.Core.Path.{_≡_}
+-- The outcome of a whole file by the tests of numbers 1 to 3 in their order, or else by its lines, where it has any.
+use mathlib.Core.Path.{_≡_, refl}
 use mathlib.Core.Bool.{true, false}
-use mathlib.Core.List.{List}
+use mathlib.Core.List.{List, []}
 use Prim.Native.Nat.{ℕ, _-_, _≤_, _<_}
-use lib.ListN.{length, getD}
-use borrow.Author.Tests.{eq-eqb, ne-eqb, lt-ltb, le-ltb}
-use Rattle.scan.specs.Text.{newline, isText, allBytes}
-use Rattle.reader.specs.File.{nothingYet, refused, readLines, maxBytes, unended, linesOf, readFile}
+use native.Mathlib.Omega.{arith}
+use lib.ListN.{length, getD, take}
+use borrow.Author.Tests.{eq-eqb, ne-eqb, lt-ltb, le-ltb, lt-leb, le-leb}
+use Rattle.scan.specs.Text.{newline, isText, allBytes, split}
+use Rattle.scan.proofs.Bytes.{bytes-none}
+use Rattle.reader.specs.File.{nothingYet, accepted, refused, readLines, maxBytes, readFile}
 
 module _ (file : List ℕ) where
   pub file-long : maxBytes < length file → readFile file ≡ refused 1 0
@@ -19,20 +21,21 @@ module _ (file : List ℕ) where
     file-bytes e = rw (le-ltb maxBytes (length file) short, e)
 
     module _ (text : allBytes isText file ≡ true) where
-      pub file-unended : unended file ≡ true → readFile file ≡ refused 3 0
+      pub file-none : length file ≡ 0 → readFile file ≡ accepted [] []
       unfolding readFile
-      file-unended e = rw (le-ltb maxBytes (length file) short, text, e)
+      file-none e = rw (le-ltb maxBytes (length file) short, text, lt-leb 1 (length file) (omega arith))
 
-      pub file-lines : unended file ≡ false → readFile file ≡ readLines nothingYet 1 (linesOf file)
-      unfolding readFile
-      file-lines e = rw (le-ltb maxBytes (length file) short, text, e)
+      module _ (some : length file ≡ 0 → ⊥) where
+        some-bytes : 1 ≤ length file
+        some-bytes = omega arith
 
-  pub no-bytes : length file ≡ 0 → unended file ≡ true
-  no-bytes e = rw (eq-eqb (length file) 0 e)
+        pub file-unended : (getD file (length file - 1) 0 ≡ newline → ⊥) → readFile file ≡ refused 3 0
+        unfolding readFile
+        file-unended n = rw (le-ltb maxBytes (length file) short, text, le-leb 1 (length file) some-bytes, ne-eqb (getD file (length file - 1) 0) newline n)
 
-  module _ (some : length file ≡ 0 → ⊥) where
-    pub last-other : (getD file (length file - 1) 0 ≡ newline → ⊥) → unended file ≡ true
-    last-other n = rw (ne-eqb (length file) 0 some, ne-eqb (getD file (length file - 1) 0) newline n)
+        pub file-lines : getD file (length file - 1) 0 ≡ newline → readFile file ≡ readLines nothingYet 1 (split newline (take (length file - 1) file))
+        unfolding readFile
+        file-lines e = rw (le-ltb maxBytes (length file) short, text, le-leb 1 (length file) some-bytes, eq-eqb (getD file (length file - 1) 0) newline e)
 
-    pub last-ends : getD file (length file - 1) 0 ≡ newline → unended file ≡ false
-    last-ends e = rw (ne-eqb (length file) 0 some, eq-eqb (getD file (length file - 1) 0) newline e)
+pub no-bytes : readFile [] ≡ accepted [] []
+no-bytes = file-none [] (omega arith) (bytes-none isText) refl

@@ -23,9 +23,9 @@ use Rattle.book.specs.declared.Found.{Found}
 use Rattle.book.specs.declared.Found.the-variants.{Nothing, At}
 use Rattle.reader.proofs.FieldCounts.{name-fields, rule-fields}
 use Rattle.reader.specs.File.{Content, nothingYet, bodyLiterals, allFields, isFound, declared, malformed, usesUndeclared, beyondTable, lineFault, numberIn, literalNumber, entryFrom, hasTilde, ruleFrom, extended, withLine, accepted, linesOf, readFile}
-use Rattle.reader.specs.Conditions.{saidBy}
+use Rattle.reader.specs.Conditions.{saidBy, SaysNothing}
 use Rattle.reader.proofs.Faults.{Passes, line-passes, each-field}
-use Rattle.reader.proofs.Lines.{Faultless, file-read}
+use Rattle.reader.proofs.Lines.{Faultless, Read, file-read}
 
 pub record Within (d : Content) : Type 0 where
   pub few-names : length (d .names) ≤ maxNames
@@ -159,6 +159,11 @@ within-lines d (line ∷ lines) w f = within-lines (withLine d (fields line)) li
 
 pub accepted-within : (file : List ℕ) (names : List (List ℕ)) (rules : List Rule) → readFile file ≡ accepted names rules
     → Within (record { names = names; rules = rules; ended = true })
-accepted-within file names rules e =
-    let r = file-read file names rules e in
-    rw (← r .its-names, ← r .its-rules, ← r .ends) (within-lines nothingYet (linesOf file) within-nothing (r .lines-pass))
+unfolding extended
+accepted-within file names rules e = ⊎-elim by-lines none (file-read file names rules e)
+  where
+    by-lines : Read nothingYet (linesOf file) names rules → Within (record { names = names; rules = rules; ended = true })
+    by-lines r = rw (← r .its-names, ← r .its-rules, ← r .ends) (within-lines nothingYet (linesOf file) within-nothing (r .lines-pass))
+
+    none : SaysNothing file names rules → Within (record { names = names; rules = rules; ended = true })
+    none s = rw (s .1, s .2) (within-end nothingYet within-nothing [])

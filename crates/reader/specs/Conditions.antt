@@ -1,6 +1,6 @@
 -- The conditions of the table in document 01, "When a call is turned down by its input", said of a file and its lines as propositions, and the order
--- in which they decide. They don't use the tests of `readFile`; `proofs/Conditions.antt` shows that it gives each number under its condition and
--- under no other.
+-- in which they decide; document 02, A.4, accepts a file of no bytes. They don't use the tests of `readFile`; `proofs/Conditions.antt` shows that it
+-- gives each number under its condition and under no other.
 use mathlib.Core.Path.{_≡_}
 use mathlib.Core.Logic.{_⊎_}
 use mathlib.Core.Bool.{true, false}
@@ -47,9 +47,12 @@ TooLong file = maxBytes < length file
 abbrev pub StrangeByte : List ℕ → Type 0
 StrangeByte file = (b : ℕ) × (b isIn file) × ((b ≡ newline) ⊎ ((32 ≤ b) × (b ≤ 126)) → ⊥)
 
--- 3: no bytes, or the last byte isn't 10
+abbrev pub HasBytes : List ℕ → Type 0
+HasBytes file = 1 ≤ length file
+
+-- 3: the last byte isn't 10
 abbrev pub LastLineOpen : List ℕ → Type 0
-LastLineOpen file = (file ≡ []) ⊎ (getD file (length file - 1) 0 ≡ newline → ⊥)
+LastLineOpen file = HasBytes file × (getD file (length file - 1) 0 ≡ newline → ⊥)
 
 -- ---- numbers 4 to 9, of the fields of a line, where the lines before it have said d
 
@@ -172,15 +175,19 @@ pub record Through (file : List ℕ) (at : ℕ) (d : Content) : Type 0 where
   pub sound : NoFaults nothingYet (linesOf file)
   pub said : saidBy nothingYet (linesOf file) ≡ d
 
--- 9: no `end`, with the line after the last
+-- 9: no `end`, with the line after the last; a file of no bytes needs none
 abbrev pub NoEnd : List ℕ → ℕ → Type 0
-NoEnd file at = (d : Content) × Through file at d × (d .ended ≡ false)
+NoEnd file at = HasBytes file × (d : Content) × Through file at d × (d .ended ≡ false)
 
 -- ---- the outcome
 
 abbrev pub IsRefused : List ℕ → ℕ → ℕ → Type 0
 IsRefused file k at = ((at ≡ 0) × First k (fileRows file)) ⊎ OnLine file at (λ d fs. First k (fieldRows d fs)) ⊎ ((k ≡ 9) × NoEnd file at)
 
+-- no bytes, and so no names and no rules
+abbrev pub SaysNothing : List ℕ → List (List ℕ) → List Rule → Type 0
+SaysNothing file names rules = (file ≡ []) × (names ≡ []) × (rules ≡ [])
+
 abbrev pub IsAccepted : List ℕ → List (List ℕ) → List Rule → Type 0
 IsAccepted file names rules =
-    (at : ℕ) × (d : Content) × Through file at d × (d .ended ≡ true) × (d .names ≡ names) × (d .rules ≡ rules)
+    ((at : ℕ) × (d : Content) × Through file at d × (d .ended ≡ true) × (d .names ≡ names) × (d .rules ≡ rules)) ⊎ SaysNothing file names rules

@@ -1,5 +1,5 @@
 -- What a marking file says, for every list of bytes: a book, or a refusal with its number and line (document 01, "The marking file" and "When a call
--- is turned down by its input").
+-- is turned down by its input"; document 02, A.4, for a file of no bytes).
 use mathlib.Core.Bool.{Bool, true, false, not, cond, _&&_, _||_}
 use mathlib.Core.List.{List, [], _∷_, _++_, map}
 use Prim.Native.Nat.{ℕ, _+_, _-_, _*_}
@@ -161,19 +161,23 @@ readLines d at (line ∷ lines) =
 abbrev pub maxBytes : ℕ
 maxBytes = 60000
 
--- 3: no bytes, or the last byte isn't 10
+abbrev pub hasBytes : List ℕ → Bool
+hasBytes file = leb 1 (length file)
+
+-- 3: the last byte isn't 10
 abbrev pub unended : List ℕ → Bool
-unended file = eqb (length file) 0 || not (eqb (getD file (length file - 1) 0) newline)
+unended file = hasBytes file && not (eqb (getD file (length file - 1) 0) newline)
 
--- each line ends in byte 10, so the last one's is left out
+-- each line ends in byte 10, so the last one's is left out; a file of no bytes has no lines
 abbrev pub linesOf : List ℕ → List (List ℕ)
-linesOf file = split newline (take (length file - 1) file)
+linesOf file = cond (hasBytes file) (split newline (take (length file - 1) file)) []
 
--- numbers 1 to 3 look at the whole file in this order, with line 0
+-- numbers 1 to 3 look at the whole file in this order, with line 0; a file of no bytes is accepted, without `end`
 unfoldable pub readFile : List ℕ → Outcome
 readFile file =
     let lines = readLines nothingYet 1 (linesOf file) in
     cond (ltb maxBytes (length file)) (refused 1 0)
     (cond (not (allBytes isText file)) (refused 2 0)
     (cond (unended file) (refused 3 0)
-    lines))
+    (cond (hasBytes file) lines
+    (accepted [] []))))

@@ -1,5 +1,6 @@
 -- What a marking file says.
 pub mod File
 pub mod Conditions
+pub mod NoBytes
 pub mod Loading
 pub mod Steps

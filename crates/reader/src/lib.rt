@@ -340,7 +340,10 @@ pub fn read(file: &[u8]) -> Loaded
         return refusal(2, 0);
     }
     if n == 0 {
-        return refusal(3, 0);
+        return Loaded {
+            answer: Answer::Accepted,
+            book: book::no_book(),
+        };
     }
     if file[n - 1] != b'\n' {
         return refusal(3, 0);

@@ -1,4 +1,4 @@
--- `read`: each test of the whole file that fails settles its number, in the definition's order; the rest is the lines.
+-- `read`: each test of the whole file that fails settles its number, in the definition's order; where there are no bytes nothing is left, else the lines.
 use borrow.Author.Needs.{needs}
 use mathlib.Core.Path.{sym, ap, _∙_, _≡_}
 use Prim.Native.Nat.{ℕ, _-_}
@@ -10,7 +10,7 @@ use mathlib.Core.List.{List}
 use mathlib.Core.Bool.{true}
 use Rattle.reader.specs.File.{nothingYet, readLines}
 use Rattle.reader.specs.Loading.{loadedOf}
-use Rattle.reader.proofs.Whole.{file-long, file-bytes, file-unended, file-lines, no-bytes, last-other, last-ends}
+use Rattle.reader.proofs.Whole.{file-long, file-bytes, file-none, file-unended, file-lines}
 use Rattle.reader.proofs.read.Statement.{statement}
 use Rattle.reader.proofs.read.Tie as tie
 
@@ -42,14 +42,15 @@ returns-2 c =
     c .refusal2 .ensures
     ∙ ap loadedOf (sym (file-bytes (file-of tested) (tested .before .if1 .left) (sym (tested .all-text .ensures) ∙ not-true (tested .all-text .result) (c .before .if2 .taken))))
 
-refusal-requires-3 : tie.Need-refusal-requires-3
-refusal-requires-3 c κs = search needs
+no-book-requires : tie.Need-no-book-requires
+no-book-requires c κs = search needs
 
 returns-3 : tie.Need-returns-3
+unfolding loadedOf
 returns-3 c =
     let text = c .before .before in
     let file = file-of (text .before) in
-    c .refusal3 .ensures ∙ ap loadedOf (sym (file-unended file (text .before .before .if1 .left) (texts text) (no-bytes file (c .before .if3 .taken))))
+    rw (c .no-book .ensures) (ap loadedOf (sym (file-none file (text .before .before .if1 .left) (texts text) (c .before .if3 .taken))))
 
 sub-if4 : tie.Need-sub-if4
 sub-if4 c = search needs
@@ -57,15 +58,15 @@ sub-if4 c = search needs
 shared-slice-read-if4 : tie.Need-shared-slice-read-if4
 shared-slice-read-if4 c = search needs
 
-refusal-requires-4 : tie.Need-refusal-requires-4
-refusal-requires-4 c κs = search needs
+refusal-requires-3 : tie.Need-refusal-requires-3
+refusal-requires-3 c κs = search needs
 
 returns-4 : tie.Need-returns-4
 returns-4 c =
     let some = c .before .before .before in
     let text = some .before in
     let file = file-of (text .before) in
-    c .refusal4 .ensures ∙ ap loadedOf (sym (file-unended file (text .before .before .if1 .left) (texts text) (last-other file (some .if3 .left) (c .before .if4 .taken))))
+    c .refusal3 .ensures ∙ ap loadedOf (sym (file-unended file (text .before .before .if1 .left) (texts text) (some .if3 .left) (c .before .if4 .taken)))
 
 sub-read-lines : tie.Need-sub-read-lines
 sub-read-lines c = search needs
@@ -89,7 +90,7 @@ returns-5 c =
     let file = file-of (text .before) in
     c .read-lines .ensures
     ∙ ap loadedOf (ap (λ (n : ℕ). readLines nothingYet 1 (split newline (take n file))) (sub-zero (length file - 1))
-    ∙ sym (file-lines file (text .before .before .if1 .left) (texts text) (last-ends file (some .if3 .left) (c .before .before .if4 .left))))
+    ∙ sym (file-lines file (text .before .before .if1 .left) (texts text) (some .if3 .left) (c .before .before .if4 .left)))
 
 pub read-spec : {M : Type 1} → statement M
 read-spec =
@@ -100,11 +101,11 @@ read-spec =
     all-text-requires
     refusal-requires-2
     returns-2
-    refusal-requires-3
+    no-book-requires
     returns-3
     sub-if4
     shared-slice-read-if4
-    refusal-requires-4
+    refusal-requires-3
     returns-4
     sub-read-lines
     sub-read-lines-2

@@ -1,0 +1,18 @@
+-- The outcome of a file as document 01 has it by itself, where a file of no bytes is refused by 3. Document 02, A.4, accepts that file, and
+-- `proofs/NoBytes.antt` shows that every other has the outcome that it has here.
+use mathlib.Core.Bool.{not, cond, _||_}
+use mathlib.Core.List.{List}
+use Prim.Native.Nat.{ℕ, _-_}
+use lib.Dec.{eqb, ltb}
+use lib.ListN.{length, getD, take}
+use Rattle.scan.specs.Text.{isText, allBytes, split, newline}
+use Rattle.reader.specs.File.{nothingYet, Outcome, refused, readLines, maxBytes}
+
+unfoldable pub readFile01 : List ℕ → Outcome
+readFile01 file =
+    let last = getD file (length file - 1) 0 in
+    let lines = split newline (take (length file - 1) file) in
+    cond (ltb maxBytes (length file)) (refused 1 0)
+    (cond (not (allBytes isText file)) (refused 2 0)
+    (cond (eqb (length file) 0 || not (eqb last newline)) (refused 3 0)
+    (readLines nothingYet 1 lines)))
