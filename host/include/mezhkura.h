@@ -10,6 +10,8 @@
  * number: 0 if the call is accepted; 1 to 9 for a refused file; 20 no book is loaded; 21 no such literal; 22 put
  * in now; 23 not put in; 24 contradictory; 25 buffer too short.
  *
+ * A file of no bytes is a book of no names and no rules: it loads.
+ *
  * Every call runs on a stack of 512 KB.
  */
 #ifndef MEZHKURA_H

@@ -63,7 +63,7 @@ pub enum Fault {
     TooLong,
     /// 2: a byte that is neither 10 nor 32 to 126.
     ForeignByte,
-    /// 3: no bytes, or the last byte isn't 10.
+    /// 3: the last byte isn't 10.
     NotEnded,
     /// 4: an unknown first field, or a wrong count of fields.
     Fields,
@@ -83,7 +83,7 @@ pub enum Fault {
 const FAULTS: [(Fault, u8, &str); 9] = [
     (Fault::TooLong, 1, "more than 60,000 bytes"),
     (Fault::ForeignByte, 2, "a byte that is no printable ASCII"),
-    (Fault::NotEnded, 3, "no bytes, or no newline at the end"),
+    (Fault::NotEnded, 3, "no newline at the end"),
     (
         Fault::Fields,
         4,

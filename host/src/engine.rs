@@ -43,7 +43,8 @@ impl Desk {
         Desk(Box::new(unsafe { exports::mezhkura_fresh() }))
     }
 
-    /// Makes a marking file's names and rules the book, and empties the facts.
+    /// Makes a marking file's names and rules the book, and empties the facts. A file of no bytes is a book
+    /// of no names and no rules.
     ///
     /// Refused with numbers 1 to 9 and a line.
     pub fn load(&mut self, file: &[u8]) -> Result<(), Refused> {

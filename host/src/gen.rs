@@ -517,7 +517,7 @@ fn name_edges() -> Vec<String> {
     lengths.into_iter().flat_map(of_length).collect()
 }
 
-/// Files around 60,000 bytes, and around the size of a buffer of 65,536.
+/// A file of no bytes, and files around 60,000 bytes and around the size of a buffer of 65,536.
 fn length_edges() -> Vec<String> {
     let lengths = [
         59_999, 60_000, 60_001, 60_002, 65_535, 65_536, 65_537, 70_000,
@@ -531,7 +531,9 @@ fn length_edges() -> Vec<String> {
             format!("end\n{}", "\u{7f}".repeat(length - 4)),
         ]
     };
-    lengths.into_iter().flat_map(of_length).collect()
+    let mut files = vec![String::new()];
+    files.extend(lengths.into_iter().flat_map(of_length));
+    files
 }
 
 /// Every byte as a name, behind a name and alone.

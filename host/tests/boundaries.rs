@@ -149,11 +149,25 @@ fn number_2_is_given_for_bytes_outside_10_and_32_to_126() {
 }
 
 #[test]
-fn number_3_is_given_for_no_bytes_and_for_no_last_newline() {
-    assert_refused("", 3, 0);
+fn number_3_is_given_for_no_last_newline() {
+    assert_refused("e", 3, 0);
     assert_refused("end", 3, 0);
     assert_refused("name,a\nend", 3, 0);
     assert_refused("nonsense", 3, 0);
+}
+
+/// Document 02, A.4.
+#[test]
+fn a_file_of_no_bytes_loads_and_one_of_one_byte_does_not() {
+    assert_loads("", 0, 0);
+    for byte in 0..=255u8 {
+        let (number, line) = match byte {
+            10 => (4, 1),
+            32..=126 => (3, 0),
+            _ => (2, 0),
+        };
+        assert_refused([byte], number, line);
+    }
 }
 
 #[test]
@@ -295,7 +309,12 @@ fn number_24_is_given_to_a_verdict_after_21_and_to_nothing_else() {
 
 #[test]
 fn number_25_is_given_to_a_buffer_one_byte_short() {
-    for file in ["end\n", "name,a\nend\n", "name,a\nrule,a\nrule,-a\nend\n"] {
+    for file in [
+        "",
+        "end\n",
+        "name,a\nend\n",
+        "name,a\nrule,a\nrule,-a\nend\n",
+    ] {
         let desk = desk(file);
         let text = program_output(file.as_bytes()).into_bytes();
         let mut exact = vec![7; text.len()];
@@ -320,4 +339,16 @@ fn a_load_empties_the_facts_and_a_refused_one_changes_nothing() {
     assert_eq!(desk.load(b"name,b\nend\n"), Ok(()));
     assert!(desk.facts().is_empty());
     assert_eq!(desk.verdict(0), Ok(Verdict::False));
+}
+
+/// Document 02, A.4: what a file of no bytes leaves is what `end` alone leaves, also over a book with facts.
+#[test]
+fn a_file_of_no_bytes_leaves_what_end_alone_leaves() {
+    let mut with_none = desk("name,a\nend\n");
+    with_none.put_in(0).expect("the literal is the book's");
+    let mut with_end = with_none.clone();
+    assert_eq!(with_none.load(b""), Ok(()));
+    assert_eq!(with_end.load(b"end\n"), Ok(()));
+    assert_eq!(with_none, with_end);
+    assert_eq!(with_none.verdict(0), Err(Refused::NoSuchLiteral));
 }

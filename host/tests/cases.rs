@@ -99,8 +99,9 @@ fn case_6_has_f_and_s_false_and_d_undefined() {
 }
 
 #[test]
-fn case_10_lists_a_book_of_nothing() {
+fn case_10_and_a_file_of_no_bytes_list_a_book_of_nothing() {
     assert_eq!(program_output(b"end\n"), "model,0,0,0\n");
+    assert_eq!(program_output(b""), "model,0,0,0\n");
 }
 
 #[test]

@@ -18,7 +18,7 @@ use Rattle.reader.specs.Conditions.{TooLong, StrangeByte, HasBytes, Last
 use Rattle.reader.proofs.Faults.{no-entries}
 use Rattle.reader.proofs.Lines.{Faultless, lines-read}
 use Rattle.reader.proofs.Order.{Gives, no-row, some-row, gives-row, gives-none, gives-first, gives-some, first-between, absent, first-absent, first-row}
-use Rattle.reader.proofs.Whole.{no-bytes}
+use Rattle.reader.proofs.NoBytes.{no-bytes}
 use Rattle.reader.proofs.Tests.{too-long, strange-byte, last-open, fields-wrong, form-wrong, name-taken, name-missing, table-full}
 
 -- ---- the number of a line

@@ -1,7 +1,7 @@
 -- The lines of a file are the one way to part it into lines that have no byte 10 and are ended by byte 10, and the fields of a line the one way to part it
 -- by commas: what `split` gives puts together to the bytes again, and bytes that are put together from such pieces are split into these.
 use mathlib.Core.Path.{_≡_, refl, sym, ap, _∙_, subst}
-use mathlib.Core.Logic.{inl, inr, ⊎-elim, _↔_}
+use mathlib.Core.Logic.{⊎-elim, _↔_}
 use mathlib.Core.Bool.{Bool, true, false}
 use mathlib.Core.List.{List, [], _∷_, _++_, List·Memᴰ·head, List·Memᴰ·tail, List·Memᴰ·not-nil, List·Memᴰ·cases-cons}
 use Prim.Native.Nat.{ℕ, suc, _-_, _<_}

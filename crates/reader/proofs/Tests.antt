@@ -22,7 +22,7 @@ use Rattle.book.specs.Book.{sameName, findFrom}
 use Rattle.book.proofs.Lookup.{same-decides, find-none, find-first, find-later}
 use Rattle.reader.specs.File.{Content, bodyLiterals, allFields, isLiteral, hasTilde, isFound, declared, wrongFields, headTilde, malformed, declaredBefore, usesUndeclared, beyondTable, maxBytes, hasBytes, unended, isKnown}
 use Rattle.reader.specs.Conditions.{LetterByte, NameByte, NameText, Optional, LiteralText, TooLong, StrangeByte, LastLineOpen, SomeField, FieldsWrong, FormWrong, Declared, NameTaken, NameMissing, TableFull}
-use Rattle.reader.proofs.Faults.{each-field, each-passes, all-pass, fails-where, no-entries}
+use Rattle.reader.proofs.Faults.{each-field, each-passes, all-pass, fails-where}
 
 -- ---- numbers 1 to 3
 

@@ -1,5 +1,5 @@
 -- The outcome of a whole file by the tests of numbers 1 to 3 in their order, or else by its lines, where it has any.
-use mathlib.Core.Path.{_≡_, refl}
+use mathlib.Core.Path.{_≡_}
 use mathlib.Core.Bool.{true, false}
 use mathlib.Core.List.{List, []}
 use Prim.Native.Nat.{ℕ, _-_, _≤_, _<_}
@@ -7,7 +7,6 @@ use native.Mathlib.Omega.{arith}
 use lib.ListN.{length, getD, take}
 use borrow.Author.Tests.{eq-eqb, ne-eqb, lt-ltb, le-ltb, lt-leb, le-leb}
 use Rattle.scan.specs.Text.{newline, isText, allBytes, split}
-use Rattle.scan.proofs.Bytes.{bytes-none}
 use Rattle.reader.specs.File.{nothingYet, accepted, refused, readLines, maxBytes, readFile}
 
 module _ (file : List ℕ) where
@@ -36,6 +35,3 @@ module _ (file : List ℕ) where
         pub file-lines : getD file (length file - 1) 0 ≡ newline → readFile file ≡ readLines nothingYet 1 (split newline (take (length file - 1) file))
         unfolding readFile
         file-lines e = rw (le-ltb maxBytes (length file) short, text, le-leb 1 (length file) some-bytes, eq-eqb (getD file (length file - 1) 0) newline e)
-
-pub no-bytes : readFile [] ≡ accepted [] []
-no-bytes = file-none [] (omega arith) (bytes-none isText) refl

@@ -339,6 +339,7 @@ pub fn read(file: &[u8]) -> Loaded
     if !scan::all_text(file) {
         return refusal(2, 0);
     }
+    // A file of no bytes has no lines, and needs no `end`.
     if n == 0 {
         return Loaded {
             answer: Answer::Accepted,

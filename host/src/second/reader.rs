@@ -1,12 +1,16 @@
 //! From the bytes of a file to a book (document 01, "The marking file" and "When a call is turned
-//! down by its input").
+//! down by its input"; document 02, A.4).
 
 use super::book::{Book, Entry, Rule};
 use super::book::{MOST_BODY_LITERALS, MOST_BYTES, MOST_LETTERS, MOST_NAMES, MOST_RULES};
 use crate::answer::{Fault, Refused};
 
-/// The book of a file, or the number and line of its first fault.
+/// The book of a file, or the number and line of its first fault. A file of no bytes has a book of no
+/// names and no rules.
 pub fn read(file: &[u8]) -> Result<Book, Refused> {
+    if file.is_empty() {
+        return Ok(Book::default());
+    }
     judge_whole(file).map_err(|fault| Refused::File { fault, line: 0 })?;
     let mut reading = Reading::default();
     let mut line = 0;

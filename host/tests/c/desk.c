@@ -1,4 +1,5 @@
-/* A desk in C: loads a book, puts in a fact, asks for verdict, search and model, and prints the listing. */
+/* A desk in C: loads a book, puts in a fact, asks for verdict, search and model, and prints the listing; then
+ * loads a file of no bytes and prints its listing. */
 #include "mezhkura.h"
 
 #include <stdio.h>
@@ -28,6 +29,7 @@ int main(void)
     mezhkura_verdict_reply verdict = mezhkura_verdict(out.desk, 2);
     mezhkura_search_reply search = mezhkura_search(out.desk, 3, 1, MEZHKURA_T);
     mezhkura_model_reply model = mezhkura_model(out.desk);
+    mezhkura_load_reply empty = mezhkura_load(out.desk, (const uint8_t *)file, 0);
     uint8_t buffer[200];
     mezhkura_listing_reply listing = mezhkura_listing(out.desk, buffer, sizeof buffer);
     mezhkura_listing_reply shorter = mezhkura_listing(out.desk, buffer, listing.length - 1);
@@ -44,6 +46,9 @@ int main(void)
            (int)model.nonfalse.words[0]);
     printf("%d %d\n", of_written.number, of_written.verdict);
     printf("%d %d\n", listing.number, shorter.number);
+    fwrite(buffer, 1, listing.length, stdout);
+    listing = mezhkura_listing(empty.desk, buffer, sizeof buffer);
+    printf("%d %d\n", empty.number, listing.number);
     fwrite(buffer, 1, listing.length, stdout);
     return 0;
 }
