@@ -9,17 +9,16 @@ use Prim.Native.Nat.{ℕ, suc, _+_, _≤_, _<_}
 use native.Mathlib.Omega.{arith}
 use lib.Dec.{eqb, ltb}
 use lib.ListN.{length, take, drop, length-append}
-use borrow.Author.Tests.{eqb-true, eqb-false, eq-eqb, ne-eqb, leb-true, leb-false, le-leb}
+use borrow.Author.Tests.{eqb-true, eqb-false, eq-eqb, ne-eqb}
 use Rattle.wfsx.specs.Program.{Rule}
 use Rattle.scan.specs.Text.{isText, allBytes, fields, wordOf, comma}
 use Rattle.scan.proofs.Places.{split-some}
 use Rattle.reader.specs.File.{Content, nothingYet, wrongFields, malformed, declaredBefore, usesUndeclared, beyondTable, _when_else_, faultOf, lineFault, withLine, Outcome, accepted, refused, readLines, maxBytes, hasBytes, unended, linesOf, readFile}
 use Rattle.reader.specs.Conditions.{TooLong, StrangeByte, HasBytes, LastLineOpen, AfterEnd, FieldsWrong, FormWrong, NameTaken, NameMissing, TableFull, fileRows, fieldRows, None, First, _unless_, saidBy, NoFaults, Judged, OnLine, Through, NoEnd, IsRefused, IsAccepted}
-use Rattle.reader.proofs.Faults.{no-entries}
 use Rattle.reader.proofs.Lines.{Faultless, lines-read}
 use Rattle.reader.proofs.Order.{Gives, no-row, some-row, gives-row, gives-none, gives-first, gives-some, first-between, absent, first-absent, first-row}
 use Rattle.reader.proofs.NoBytes.{no-bytes}
-use Rattle.reader.proofs.Tests.{too-long, strange-byte, last-open, fields-wrong, form-wrong, name-taken, name-missing, table-full}
+use Rattle.reader.proofs.Tests.{too-long, strange-byte, has-bytes, last-open, fields-wrong, form-wrong, name-taken, name-missing, table-full}
 
 -- ---- the number of a line
 
@@ -120,6 +119,10 @@ has-end : (file : List ℕ) → saidBy nothingYet (linesOf file) .ended ≡ true
 has-end [] e = absurd (true≢false (sym e))
 has-end (b ∷ bs) e = omega arith
 
+bytes-or-none : (file : List ℕ) → HasBytes file ⊎ (file ≡ [])
+bytes-or-none [] = inr refl
+bytes-or-none (b ∷ bs) = inl (omega arith)
+
 module _ (file : List ℕ) where
   -- where none of 1 to 3 is met
   abbrev passed : Outcome
@@ -144,7 +147,7 @@ module _ (file : List ℕ) where
       go false false false o = refl
 
   file-passes : HasBytes file → None (fileRows file) → readFile file ≡ readLines nothingYet 1 (linesOf file)
-  file-passes some n = readFile-is ∙ rw (gives-none (fileFault file) (fileRows file) refl file-gives .1 n, le-leb 1 (length file) some)
+  file-passes some n = readFile-is ∙ rw (gives-none (fileFault file) (fileRows file) refl file-gives .1 n, has-bytes file .1 some)
 
   file-stops : (k : ℕ) → First k (fileRows file) → readFile file ≡ refused k 0
   file-stops k f =
@@ -164,14 +167,9 @@ module _ (file : List ℕ) where
   file-judged : ByFile ⊎ ByLines ⊎ ByNothing
   file-judged = go file-gives
     where
-      by-bytes : (t : Bool) → hasBytes file ≡ t → None (fileRows file) → ByFile ⊎ ByLines ⊎ ByNothing
-      by-bytes true h n = let some = leb-true 1 (length file) h in inr (inl (some, n, file-passes some n))
-      by-bytes false h n =
-          let none = no-entries file (omega (arith, leb-false 1 (length file) h)) in
-          inr (inr (none, ap readFile none ∙ no-bytes))
-
       go : Gives (fileFault file) (fileRows file) → ByFile ⊎ ByLines ⊎ ByNothing
-      go (no-row z n) = by-bytes (hasBytes file) refl n
+      go (no-row z n) =
+          ⊎-elim (λ some. inr (inl (some, n, file-passes some n))) (λ none. inr (inr (none, no-bytes file (ap length none)))) (bytes-or-none file)
       go (some-row f) = inl (fileFault file, f, file-stops (fileFault file) f)
 
   -- ---- refusal and acceptance
@@ -258,7 +256,7 @@ module _ (file : List ℕ) where
           let start = faultless-is nothingYet (linesOf file) .1 (t .sound) in
           let last : saidBy nothingYet (linesOf file) .ended ≡ true = rw (t .said) (s .3) in
           file-passes (has-end file last) (t .file-passed) ∙ lines-through nothingYet 1 (linesOf file) start ∙ rw (t .said, s .3, s .4, s .5)
-      back (inr s) = rw (s .1, s .2) (ap readFile (s .0) ∙ no-bytes)
+      back (inr s) = rw (s .1, s .2) (no-bytes file (ap length (s .0)))
 
 -- no other numbers are given
 pub refused-numbers : (file : List ℕ) (k at : ℕ) → readFile file ≡ refused k at → (1 ≤ k) × (k ≤ 9)

@@ -8,12 +8,11 @@ use Prim.Native.Nat.{ℕ, _+_}
 use native.Mathlib.Omega.{arith}
 use lib.Dec.{eqb, ltb}
 use lib.ListN.{length}
-use borrow.Author.Tests.{eqb-true, leb-false}
+use borrow.Author.Tests.{eqb-true}
 use Rattle.wfsx.specs.Program.{Rule}
 use Rattle.scan.specs.Text.{isText, allBytes, fields}
 use Rattle.reader.specs.File.{Content, nothingYet, lineFault, withLine, Outcome, accepted, refused, readLines, maxBytes, hasBytes, unended, linesOf, readFile}
 use Rattle.reader.specs.Conditions.{saidBy, SaysNothing}
-use Rattle.reader.proofs.Faults.{no-entries}
 
 -- none of the lines is faulty after d and the lines before it
 abbrev pub Faultless : Content → List (List ℕ) → Type 0
@@ -58,12 +57,9 @@ file-read file names rules e =
     let a = unrefused (ltb maxBytes (length file)) 1 0 _ names rules e in
     let b = unrefused (not (allBytes isText file)) 2 0 _ names rules a in
     let c = unrefused (unended file) 3 0 _ names rules b in
-    go (hasBytes file) refl c
+    go file c
   where
-    lines : Outcome
-    lines = readLines nothingYet 1 (linesOf file)
-
-    go : (t : Bool) → hasBytes file ≡ t → cond t lines (accepted [] []) ≡ accepted names rules
-        → Read nothingYet (linesOf file) names rules ⊎ SaysNothing file names rules
-    go true h q = inl (lines-read nothingYet 1 (linesOf file) names rules q)
-    go false h q = inr (no-entries file (omega (arith, leb-false 1 (length file) h)), cc, cc)
+    go : (f : List ℕ) → cond (hasBytes f) (readLines nothingYet 1 (linesOf f)) (accepted [] []) ≡ accepted names rules
+        → Read nothingYet (linesOf f) names rules ⊎ SaysNothing f names rules
+    go [] q = inr (refl, cc, cc)
+    go (b ∷ bs) q = inl (lines-read nothingYet 1 (linesOf (b ∷ bs)) names rules q)

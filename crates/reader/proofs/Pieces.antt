@@ -10,7 +10,7 @@ use native.Mathlib.Decide.{ℕ-discrete}
 use lib.Dec.{eqb}
 use lib.ListN.{length, getD, take, length-append}
 use lib.Seq.{take-suc, take-length}
-use borrow.Author.Tests.{eqb-true, eqb-false, eq-eqb, ne-eqb, le-leb}
+use borrow.Author.Tests.{eqb-true, eqb-false, eq-eqb, ne-eqb}
 use Rattle.wfsx.specs.Sets.{_isIn_}
 use Rattle.scan.specs.Text.{onto, split, fields, comma, newline}
 use Rattle.scan.proofs.Places.{split-none, split-stop, split-byte, split-some}
@@ -81,9 +81,7 @@ lines-are [] lines shut = (none, λ c. no-lines lines (c .0))
     no-lines : (ls : List (List ℕ)) → closed newline ls ≡ [] → [] ≡ ls
     no-lines [] e = refl
     no-lines (l ∷ ls) e = let bad = ap length e in absurd (omega (arith, length-append l (newline ∷ closed newline ls)))
-lines-are (b ∷ bs) lines shut =
-    rw (le-leb 1 (length file) (omega arith))
-    (subst (λ (l : List ℕ). (split newline (take (length file - 1) file) ≡ lines) ↔ ((closed newline lines ≡ l) × FreeOf newline lines)) put-together (split-is newline (take (length file - 1) file) lines))
+lines-are (b ∷ bs) lines shut = subst (λ (l : List ℕ). (linesOf file ≡ lines) ↔ ((closed newline lines ≡ l) × FreeOf newline lines)) put-together (split-is newline (take (length file - 1) file) lines)
   where
     file : List ℕ
     file = b ∷ bs

@@ -10,7 +10,7 @@ use native.Mathlib.Omega.{arith}
 use native.Mathlib.Nat.{mul-suc}
 use lib.Dec.{eqb}
 use lib.ListN.{length, take, drop, length-append, length-map, length-drop, length-take}
-use borrow.Author.Tests.{eqb-false, leb-true, leb-false, not-false}
+use borrow.Author.Tests.{eqb-false, not-false}
 use Rattle.wfsx.specs.Program.{Rule}
 use Rattle.truth.proofs.Truth.{and-l, and-r, neither, clash}
 use Rattle.scan.specs.Text.{onto, split, fields, isName, wordOf, tildes, minuses, nameOf, nameWord, ruleWord, endWord, comma, newline, maxLength}
@@ -21,7 +21,7 @@ use Rattle.scan.proofs.Bytes.{name-fits}
 use Rattle.scan.proofs.Words.{IsWord, first-is}
 use Rattle.scan.proofs.Forms.{lead-most}
 use Rattle.reader.proofs.FieldCounts.{name-fields, rule-fields, end-fields, unknown-wrong}
-use Rattle.reader.specs.File.{Content, nothingYet, bodyLiterals, allFields, isLiteral, hasTilde, malformed, lineFault, entryFrom, ruleFrom, extended, withLine, accepted, maxBytes, hasBytes, linesOf, readFile}
+use Rattle.reader.specs.File.{Content, nothingYet, bodyLiterals, allFields, isLiteral, hasTilde, malformed, lineFault, entryFrom, ruleFrom, extended, withLine, accepted, maxBytes, linesOf, readFile}
 use Rattle.reader.specs.Conditions.{saidBy}
 use Rattle.reader.proofs.Faults.{Passes, line-passes}
 use Rattle.reader.proofs.Lines.{Faultless, Read, file-read}
@@ -135,14 +135,10 @@ within-weight d w = go (d .ended)
 -- a file is as long as its lines with the byte 10 behind each
 lines-total : (file : List ℕ) → byteCount (linesOf file) ≡ length file
 unfolding byteCount
-lines-total file = go (hasBytes file) refl
-  where
-    bytes : List ℕ
-    bytes = take (length file - 1) file
-
-    go : (t : Bool) → hasBytes file ≡ t → byteCount (cond t (split newline bytes) []) ≡ length file
-    go true h = let some = leb-true 1 (length file) h in omega (arith, split-total newline bytes, length-take (length file - 1) file)
-    go false h = omega (arith, leb-false 1 (length file) h)
+lines-total [] = refl
+lines-total (b ∷ bs) =
+    let file = b ∷ bs in
+    omega (arith, split-total newline (take (length file - 1) file), length-take (length file - 1) file)
 
 pub accepted-short : (file : List ℕ) (names : List (List ℕ)) (rules : List Rule) → readFile file ≡ accepted names rules → length file < maxBytes
 unfolding weight bodyLiterals

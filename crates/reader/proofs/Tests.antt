@@ -21,7 +21,7 @@ use Rattle.book.specs.Limits.{maxNames, maxRules, maxEntries, maxBody}
 use Rattle.book.specs.Book.{sameName, findFrom}
 use Rattle.book.proofs.Lookup.{same-decides, find-none, find-first, find-later}
 use Rattle.reader.specs.File.{Content, bodyLiterals, allFields, isLiteral, hasTilde, isFound, declared, wrongFields, headTilde, malformed, declaredBefore, usesUndeclared, beyondTable, maxBytes, hasBytes, unended, isKnown}
-use Rattle.reader.specs.Conditions.{LetterByte, NameByte, NameText, Optional, LiteralText, TooLong, StrangeByte, LastLineOpen, SomeField, FieldsWrong, FormWrong, Declared, NameTaken, NameMissing, TableFull}
+use Rattle.reader.specs.Conditions.{LetterByte, NameByte, NameText, Optional, LiteralText, TooLong, StrangeByte, HasBytes, LastLineOpen, SomeField, FieldsWrong, FormWrong, Declared, NameTaken, NameMissing, TableFull}
 use Rattle.reader.proofs.Faults.{each-field, each-passes, all-pass, fails-where}
 
 -- ---- numbers 1 to 3
@@ -36,10 +36,14 @@ strange-byte file =
     text : (b : ℕ) → (isText b ≡ true) ↔ ((b ≡ newline) ⊎ ((32 ≤ b) × (b ≤ 126)))
     text b = or-is (eqb b newline) (leb 32 b && leb b 126) (eqb-is b newline) (and-is (leb 32 b) (leb b 126) (leb-is 32 b) (leb-is b 126))
 
+pub has-bytes : (file : List ℕ) → (hasBytes file ≡ true) ↔ HasBytes file
+has-bytes [] = (λ e. absurd (true≢false (sym e)), λ h. absurd (omega arith))
+has-bytes (b ∷ bs) = (λ e. omega arith, λ h. refl)
+
 pub last-open : (file : List ℕ) → (unended file ≡ true) ↔ LastLineOpen file
 last-open file =
     let last = getD file (length file - 1) 0 in
-    and-is (hasBytes file) (not (eqb last newline)) (leb-is 1 (length file)) (not-is (eqb last newline) (eqb-is last newline))
+    and-is (hasBytes file) (not (eqb last newline)) (has-bytes file) (not-is (eqb last newline) (eqb-is last newline))
 
 -- ---- names and literals
 

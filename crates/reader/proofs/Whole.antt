@@ -1,13 +1,14 @@
--- The outcome of a whole file by the tests of numbers 1 to 3 in their order, or else by its lines, where it has any.
+-- The outcome of a whole file by the tests of numbers 1 to 3 in their order, or else by its lines, where it has bytes.
 use mathlib.Core.Path.{_≡_}
 use mathlib.Core.Bool.{true, false}
-use mathlib.Core.List.{List, []}
+use mathlib.Core.List.{List}
 use Prim.Native.Nat.{ℕ, _-_, _≤_, _<_}
 use native.Mathlib.Omega.{arith}
 use lib.ListN.{length, getD, take}
-use borrow.Author.Tests.{eq-eqb, ne-eqb, lt-ltb, le-ltb, lt-leb, le-leb}
+use borrow.Author.Tests.{eq-eqb, ne-eqb, lt-ltb, le-ltb}
 use Rattle.scan.specs.Text.{newline, isText, allBytes, split}
-use Rattle.reader.specs.File.{nothingYet, accepted, refused, readLines, maxBytes, readFile}
+use Rattle.reader.specs.File.{nothingYet, refused, readLines, maxBytes, hasBytes, readFile}
+use Rattle.reader.proofs.Tests.{has-bytes}
 
 module _ (file : List ℕ) where
   pub file-long : maxBytes < length file → readFile file ≡ refused 1 0
@@ -20,18 +21,14 @@ module _ (file : List ℕ) where
     file-bytes e = rw (le-ltb maxBytes (length file) short, e)
 
     module _ (text : allBytes isText file ≡ true) where
-      pub file-none : length file ≡ 0 → readFile file ≡ accepted [] []
-      unfolding readFile
-      file-none e = rw (le-ltb maxBytes (length file) short, text, lt-leb 1 (length file) (omega arith))
-
       module _ (some : length file ≡ 0 → ⊥) where
-        some-bytes : 1 ≤ length file
-        some-bytes = omega arith
+        some-bytes : hasBytes file ≡ true
+        some-bytes = has-bytes file .1 (omega arith)
 
         pub file-unended : (getD file (length file - 1) 0 ≡ newline → ⊥) → readFile file ≡ refused 3 0
         unfolding readFile
-        file-unended n = rw (le-ltb maxBytes (length file) short, text, le-leb 1 (length file) some-bytes, ne-eqb (getD file (length file - 1) 0) newline n)
+        file-unended n = rw (le-ltb maxBytes (length file) short, text, some-bytes, ne-eqb (getD file (length file - 1) 0) newline n)
 
         pub file-lines : getD file (length file - 1) 0 ≡ newline → readFile file ≡ readLines nothingYet 1 (split newline (take (length file - 1) file))
         unfolding readFile
-        file-lines e = rw (le-ltb maxBytes (length file) short, text, le-leb 1 (length file) some-bytes, eq-eqb (getD file (length file - 1) 0) newline e)
+        file-lines e = rw (le-ltb maxBytes (length file) short, text, some-bytes, eq-eqb (getD file (length file - 1) 0) newline e)

@@ -162,7 +162,8 @@ abbrev pub maxBytes : ℕ
 maxBytes = 60000
 
 abbrev pub hasBytes : List ℕ → Bool
-hasBytes file = leb 1 (length file)
+hasBytes [] = false
+hasBytes (b ∷ bs) = true
 
 -- 3: the last byte isn't 10
 abbrev pub unended : List ℕ → Bool

@@ -1,4 +1,4 @@
-//! The second implementation, from document 01 and the requests of document 02.
+//! The second implementation, from document 01 and those requests of document 02 that the engine meets.
 //!
 //! It is there to be compared with, so it is plain: sets are lists of flags, trees are walked as
 //! they are defined, and nothing is left out by a theorem.

@@ -10,7 +10,8 @@ use mathlib.Core.List.{List}
 use mathlib.Core.Bool.{true}
 use Rattle.reader.specs.File.{nothingYet, readLines}
 use Rattle.reader.specs.Loading.{loadedOf}
-use Rattle.reader.proofs.Whole.{file-long, file-bytes, file-none, file-unended, file-lines}
+use Rattle.reader.proofs.NoBytes.{no-bytes}
+use Rattle.reader.proofs.Whole.{file-long, file-bytes, file-unended, file-lines}
 use Rattle.reader.proofs.read.Statement.{statement}
 use Rattle.reader.proofs.read.Tie as tie
 
@@ -48,9 +49,7 @@ no-book-requires c κs = search needs
 returns-3 : tie.Need-returns-3
 unfolding loadedOf
 returns-3 c =
-    let text = c .before .before in
-    let file = file-of (text .before) in
-    rw (c .no-book .ensures) (ap loadedOf (sym (file-none file (text .before .before .if1 .left) (texts text) (c .before .if3 .taken))))
+    rw (c .no-book .ensures) (ap loadedOf (sym (no-bytes (file-of (c .before .before .before)) (c .before .if3 .taken))))
 
 sub-if4 : tie.Need-sub-if4
 sub-if4 c = search needs
