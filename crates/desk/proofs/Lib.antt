@@ -9,3 +9,4 @@ pub mod Demand3
 pub mod Answers
 pub mod Exists
 pub mod Cases
+pub mod Sizing

@@ -1,11 +1,13 @@
--- Document 01's number and values for each case of the answers. An exported call answers the numbers of a reply that the call of `desk` or `lesson` may
--- give; 0 says that it was not turned down.
+-- Document 01's number and values for each case of the answers. An exported call answers the numbers of a reply that the call of `desk`, `lesson` or `reader`
+-- may give; 0 says that it was not turned down.
 use mathlib.Core.Path.{_≡_}
 use mathlib.Core.Bool.{Bool, not, cond}
 use Prim.Native.Nat.{ℕ}
 use lib.Dec.{eqb}
 use Rattle.reader.specs.declared.Answer.{Answer}
 use Rattle.reader.specs.declared.Answer.the-variants.{Accepted, Refused}
+use Rattle.reader.specs.declared.SizeAnswer.{SizeAnswer}
+use Rattle.reader.specs.declared.SizeAnswer.the-variants as size
 use Rattle.fixpoint.specs.declared.Verdict.the-variants.{True, False, Undefined}
 use Rattle.search.specs.declared.Tree.{Tree}
 use Rattle.lesson.specs.declared.Shelf.{Shelf}
@@ -22,12 +24,20 @@ use Rattle.lesson.specs.declared.ModelAnswer.the-variants as model
 use Rattle.lesson.specs.declared.ListingAnswer.{ListingAnswer}
 use Rattle.lesson.specs.declared.ListingAnswer.the-variants as listing
 use Rattle.desk.specs.declared.LoadReply as desk-load
+use Rattle.mezhkura.specs.declared.SizeReply.{SizeReply}
 use Rattle.mezhkura.specs.declared.LoadReply.{LoadReply}
 use Rattle.mezhkura.specs.declared.ChangeReply.{ChangeReply}
 use Rattle.mezhkura.specs.declared.VerdictReply.{VerdictReply}
 use Rattle.mezhkura.specs.declared.SearchReply.{SearchReply}
 use Rattle.mezhkura.specs.declared.ModelReply.{ModelReply}
 use Rattle.mezhkura.specs.declared.ListingReply.{ListingReply}
+
+-- ---- sizing
+
+-- a refused file has no figures
+abbrev pub sizeNumbers : SizeAnswer → SizeReply
+sizeNumbers (size.Accepted names rules literals) = record { number = 0; line = 0; names = names; rules = rules; «body_literals» = literals }
+sizeNumbers (size.Refused number line) = record { number = number; line = line; names = 0; rules = 0; «body_literals» = 0 }
 
 -- ---- load
 

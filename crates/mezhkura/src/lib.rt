@@ -1,11 +1,13 @@
-// The calls of a desk for Rust and C: structs by value, slices as pointer and length, answers as numbers. Each call answers what the call of `desk` or
-// `lesson` answers, in document 01's numbers; 0 says that it was not turned down.
+// The calls of a desk for Rust and C, and sizing, which has no desk: structs by value, slices as pointer and length, answers as numbers. Each call answers
+// what the call of `desk`, `lesson` or `reader` answers, in document 01's numbers; 0 says that it was not turned down.
 ghost use mathlib.Core.Path.{_≡_};
+ghost use Rattle.reader.specs.File.{readFile};
+ghost use Rattle.reader.specs.Sizing.{sizeOf};
 ghost use Rattle.search.specs.Questions.{treeOf, questionOf};
 ghost use Rattle.lesson.specs.Calls.{Changes, GivesVerdict, Searches, GivesModel, Lists};
 ghost use Rattle.lesson.specs.declared.Change.the-variants.{PutIn, TakeOut};
 ghost use Rattle.desk.specs.Calls.{Fresh, Loads};
-ghost use Rattle.mezhkura.specs.Numbers.{loadNumber, loadLine, changeNumber, verdictNumber, verdictValue, searchNumber, searchValue, modelNumber, modelValue, listingNumber, listingLength, isSet, kindOf, LoadIn, ChangeIn, VerdictIn, SearchIn, ModelIn, ListingIn};
+ghost use Rattle.mezhkura.specs.Numbers.{sizeNumbers, loadNumber, loadLine, changeNumber, verdictNumber, verdictValue, searchNumber, searchValue, modelNumber, modelValue, listingNumber, listingLength, isSet, kindOf, LoadIn, ChangeIn, VerdictIn, SearchIn, ModelIn, ListingIn};
 use desk::Desk;
 use fixpoint::Verdict;
 use lesson::Change;
@@ -16,7 +18,17 @@ use lesson::SearchAnswer;
 use lesson::VerdictAnswer;
 use litset::LitSet;
 use reader::Answer;
+use reader::SizeAnswer;
 use search::Tree;
+
+#[repr(C)]
+pub struct SizeReply {
+    pub number: u8,
+    pub line: usize,
+    pub names: usize,
+    pub rules: usize,
+    pub body_literals: usize,
+}
 
 #[repr(C)]
 pub struct LoadReply {
@@ -56,6 +68,36 @@ pub struct ListingReply {
     pub number: u8,
     pub length: usize,
 }
+
+// ---- sizing
+
+#[no_mangle]
+pub extern "C" fn mezhkura_size(file: &[u8]) -> SizeReply
+    ensures { λ r. ⌜ r ≡ sizeNumbers (sizeOf (readFile (now (file .entry)))) ⌝ }
+{
+    match reader::size(file) {
+        SizeAnswer::Accepted {
+            names,
+            rules,
+            body_literals,
+        } => SizeReply {
+            number: 0,
+            line: 0,
+            names,
+            rules,
+            body_literals,
+        },
+        SizeAnswer::Refused { number, line } => SizeReply {
+            number,
+            line,
+            names: 0,
+            rules: 0,
+            body_literals: 0,
+        },
+    }
+}
+
+// ---- a fresh desk
 
 #[no_mangle]
 pub extern "C" fn mezhkura_fresh() -> Desk

@@ -1,16 +1,18 @@
--- The answer to a line by its case, and what it says where the line is taken by its first word: a fault leaves the rules' slices out of account, and a line
--- that adds no rule leaves in them what they hold.
+-- The answer to a line or a file by its case, and what a line says where it is taken by its first word: a fault leaves the rules' slices out of account, and
+-- a line that adds no rule leaves in them what they hold.
 use mathlib.Core.Path.{_≡_, refl, sym, ap, _∙_, subst}
 use mathlib.Core.List.{List, _∷_}
 use Prim.Native.Nat.{ℕ}
 use Rattle.scan.specs.Text.{wordOf}
 use Rattle.scan.specs.declared.Word.{Word}
 use Rattle.scan.specs.declared.Word.the-variants.{Name, End}
-use Rattle.reader.specs.File.{Content, lineFault, extended, withLine}
-use Rattle.reader.specs.Steps.{Holds, Step, lineStep, wordStep, Answered, LineRead}
+use Rattle.reader.specs.File.{Content, lineFault, extended, withLine, Outcome, refused}
+use Rattle.reader.specs.Steps.{Holds, Step, lineStep, wordStep, Answered, LineRead, FineFile, FileAnswered, FileRead}
 use Rattle.reader.specs.declared.Counts.{Counts}
 use Rattle.reader.specs.declared.LineAnswer.{LineAnswer}
 use Rattle.reader.specs.declared.LineAnswer.the-variants.{Fine, Fault}
+use Rattle.reader.specs.declared.FileAnswer.{FileAnswer}
+use Rattle.reader.specs.declared.FileAnswer.the-variants as whole
 
 pub by-word : (d : Content) (w : Word) {first : List ℕ} {fs others : List (List ℕ)} → fs ≡ first ∷ others → wordOf first ≡ w → lineStep d fs ≡ wordStep d w others
 unfolding lineFault withLine
@@ -43,3 +45,14 @@ module _ {s : Step} {r : LineAnswer} {text lengths heads starts entries heads′
 
   pub was-fault : {k : ℕ} → r ≡ Fault k → (s .fault ≡ k) × (k ≡ 0 → ⊥)
   was-fault e = subst (λ (x : LineAnswer). Answered s x text lengths) e (read .answer)
+
+module _ {o : Outcome} {r : FileAnswer} {text lengths heads starts entries heads′ starts′ entries′ : List ℕ}
+    (read : FileRead o r text lengths heads starts entries heads′ starts′ entries′) where
+  pub file-fine : {t : Counts} → r ≡ whole.Fine t → FineFile o t text lengths heads starts entries heads′ starts′ entries′
+  file-fine e = subst (λ (x : FileAnswer). FileAnswered o x text lengths heads starts entries heads′ starts′ entries′) e (read .answer)
+
+  pub file-fault : {number line : ℕ} → r ≡ whole.Fault number line → o ≡ refused number line
+  file-fault e = subst (λ (x : FileAnswer). FileAnswered o x text lengths heads starts entries heads′ starts′ entries′) e (read .answer)
+
+  pub file-as : {q : Outcome} → q ≡ o → FileRead q r text lengths heads starts entries heads′ starts′ entries′
+  file-as e = subst (λ (x : Outcome). FileRead x r text lengths heads starts entries heads′ starts′ entries′) (sym e) read

@@ -1,5 +1,6 @@
 -- What is held of the lines read so far grows with a line that has no fault: by a name, whose bytes and length are stored behind the others; by a rule,
--- which is counted, and stored where the slices hold the rules before it; or by the `end`. At first nothing is held.
+-- which is counted, and stored where the slices hold the rules before it; or by the `end`. At first nothing is held, and what is held and stored at last is
+-- the book.
 use mathlib.Core.Path.{_≡_, refl, sym, ap, ap₂, _∙_, subst}
 use mathlib.Core.Logic.{⊎-elim}
 use mathlib.Core.Bool.{true}
@@ -12,8 +13,8 @@ use Rattle.wfsx.specs.Program.{Rule}
 use Rattle.scan.specs.Text.{maxLength}
 use Rattle.scan.specs.declared.Word.the-variants.{Name, Rule as RuleWord, End}
 use Rattle.book.specs.Limits.{maxNames, maxRules, maxEntries}
-use Rattle.book.specs.Book.{clamp, namesIn, codeOf, bodyCodes, textTable, lengthTable, startTable}
-use Rattle.book.proofs.Tables.{allCodes, codes-none, codes-first, text-more, length-more, head-more, start-more, entry-more, text-none, lengths-none, heads-none, starts-none, entries-none}
+use Rattle.book.specs.Book.{clamp, namesIn, codeOf, bodyCodes, textTable, lengthTable, startTable, bookOf}
+use Rattle.book.proofs.Tables.{allCodes, codes-none, codes-first, text-more, length-more, head-more, start-more, entry-more, text-none, lengths-none, heads-none, starts-none, entries-none, book-is}
 use Rattle.book.proofs.Counts.{clamp-least}
 use Rattle.book.proofs.Back.{names-back}
 use Rattle.reader.specs.File.{Content, nothingYet, bodyLiterals, literalNumber, entryFrom, extended}
@@ -27,7 +28,7 @@ bodies-more : (rules : List Rule) (r : Rule) → bodyLiterals (rules ++ (r ∷ [
 unfolding bodyLiterals
 bodies-more rules r = omega (arith, literals-append rules (r ∷ []))
 
-pub codes-length : (rules : List Rule) → length (allCodes rules) ≡ bodyLiterals rules
+codes-length : (rules : List Rule) → length (allCodes rules) ≡ bodyLiterals rules
 unfolding bodyLiterals
 codes-length [] = ap length codes-none
 codes-length (r ∷ rules) = rw codes-first (omega (arith, length-append (bodyCodes r) (allCodes rules), length-map (r .body) codeOf, codes-length rules))
@@ -135,3 +136,11 @@ module _ {d : Content} {t : Counts} {text lengths : List ℕ} (h : Holds d t tex
         counted = record { names-are = c .names-are; rules-are = c .rules-are; used-are = c .used-are; ended-is = refl; fits = record { few-names = c .fits .few-names; few-rules = c .fits .few-rules; few-literals = c .fits .few-literals } };
         named = h .named;
       }
+
+  -- ---- the book
+
+  pub book-held : {heads starts entries : List ℕ} → Stored (d .rules) heads starts entries
+      → record { names = t .names; rules = t .rules; text = text; lengths = lengths; heads = heads; starts = starts; entries = entries } ≡ bookOf (d .names) (d .rules)
+  book-held s =
+      let c = h .counted in
+      rw (c .names-are, h .named .text-is, h .named .lengths-are, c .rules-are, s .heads-are, s .starts-are, s .entries-are) (book-is (d .names) (d .rules))

@@ -8,7 +8,6 @@ pub mod Entries
 pub mod Held
 pub mod Numbers
 pub mod Answers
-pub mod Sizes
 pub mod Progress
 pub mod Whole
 pub mod NoBytes
@@ -19,3 +18,4 @@ pub mod Conditions
 pub mod Pieces
 pub mod Said
 pub mod Outcomes
+pub mod Sizing

@@ -2,17 +2,15 @@
 -- the outcome, as the end of the lines does.
 use mathlib.Core.Path.{_≡_, ap, _∙_}
 use mathlib.Core.Bool.{cond}
-use mathlib.Core.List.{List}
-use Prim.Native.Nat.{ℕ, _+_, _-_, _*_, _≤_, _<_, zero-le}
-use lib.ListN.{length, take, drop, replicate}
+use mathlib.Core.List.{List, []}
+use Prim.Native.Nat.{ℕ, _+_, _-_, _≤_, _<_, zero-le}
+use lib.ListN.{length, take, drop}
 use borrow.Author.Tests.{ne-eqb}
-use Rattle.scan.specs.Text.{newline, split, lenTo, rest, fields, maxLength}
+use Rattle.scan.specs.Text.{newline, split, lenTo, rest, fields}
 use Rattle.scan.proofs.Places.{rest-here, rest-step, rest-none}
-use Rattle.book.specs.Limits.{maxNames, maxRules, maxEntries}
 use Rattle.reader.specs.File.{Content, nothingYet, lineFault, withLine, accepted, refused, readLines}
 use Rattle.reader.specs.Steps.{noCounts, Holds, Stored}
 use Rattle.reader.specs.declared.Counts.{Counts}
-use Rattle.reader.proofs.Held.{nothing-held, nothing-stored}
 
 module _ (d : Content) (number : ℕ) (b : List ℕ) (at : ℕ) where
   module _ (e : ℕ) (h : at ≤ length b) (q : e ≡ at + lenTo newline (drop at b)) where
@@ -30,12 +28,12 @@ module _ (d : Content) (number : ℕ) (b : List ℕ) (at : ℕ) where
   lines-end h = ap (readLines d number) (rest-none newline b at h)
 
 -- what has been read up to place `at`, and that what is left decides
-pub record ReadTo (b : List ℕ) (t : Counts) (at number : ℕ) (text lengths heads starts entries : List ℕ) : Type 0 where
+pub record ReadTo (b : List ℕ) (t : Counts) (at number : ℕ) (text lengths heads starts entries heads′ starts′ entries′ : List ℕ) : Type 0 where
   pub content : Content
   pub held : Holds content t text lengths
-  pub stored : Stored (content .rules) heads starts entries
+  pub stored : Stored [] heads starts entries → Stored (content .rules) heads′ starts′ entries′
   pub same : readLines content number (rest newline b at) ≡ readLines nothingYet 1 (split newline b)
 
-pub read-none : (b : List ℕ)
-    → ReadTo b noCounts 0 1 (replicate (maxLength * maxNames) 0) (replicate maxNames 0) (replicate maxRules 0) (replicate (maxRules + 1) 0) (replicate maxEntries 0)
-read-none b = record { content = nothingYet; held = nothing-held; stored = nothing-stored; same = ap (readLines nothingYet 1) (rest-here newline b 0 zero-le) }
+pub read-none : (b : List ℕ) {text lengths heads starts entries : List ℕ} → Holds nothingYet noCounts text lengths
+    → ReadTo b noCounts 0 1 text lengths heads starts entries heads starts entries
+read-none b h = record { content = nothingYet; held = h; stored = λ s. s; same = ap (readLines nothingYet 1) (rest-here newline b 0 zero-le) }

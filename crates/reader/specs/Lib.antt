@@ -3,4 +3,5 @@ pub mod File
 pub mod Conditions
 pub mod NoBytes
 pub mod Loading
+pub mod Sizing
 pub mod Steps

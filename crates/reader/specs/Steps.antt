@@ -1,8 +1,8 @@
--- What the reader's own functions tell each other: the counts and the tables of what has been read, and what a line does to them. The contract of `read`
--- cites none of this.
+-- What the reader's own functions tell each other: the counts and the tables of what has been read, and what a line does to them. The contracts of `read`
+-- and `size` cite none of this.
 use mathlib.Core.Path.{_≡_}
 use mathlib.Core.Bool.{Bool, true, false}
-use mathlib.Core.List.{List, map}
+use mathlib.Core.List.{List, [], map}
 use Prim.Native.Nat.{ℕ, _+_, _*_, _≤_}
 use lib.ListN.{length}
 use lib.Seq.{sets}
@@ -14,10 +14,12 @@ use Rattle.book.specs.Limits.{maxNames, maxRules, maxEntries}
 use Rattle.book.specs.Book.{clamp, namesIn, find, codeOf, textTable, lengthTable, headTable, startTable, entryTable}
 use Rattle.book.specs.declared.Found.{Found}
 use Rattle.book.specs.declared.Found.the-variants.{Nothing, At}
-use Rattle.reader.specs.File.{Content, bodyLiterals, allFields, isKnown, faultOf, lineFault, entryFrom, extended, withLine}
+use Rattle.reader.specs.File.{Content, bodyLiterals, allFields, isKnown, faultOf, lineFault, entryFrom, extended, withLine, Outcome, accepted, refused}
 use Rattle.reader.specs.declared.Counts.{Counts}
 use Rattle.reader.specs.declared.LineAnswer.{LineAnswer}
 use Rattle.reader.specs.declared.LineAnswer.the-variants.{Fine, Fault}
+use Rattle.reader.specs.declared.FileAnswer.{FileAnswer}
+use Rattle.reader.specs.declared.FileAnswer.the-variants as whole
 use Rattle.reader.specs.declared.Known.{Known}
 use Rattle.reader.specs.declared.Known.the-variants.{Undeclared, Entry}
 
@@ -105,3 +107,21 @@ Answered s (Fault k) text lengths = (s .fault ≡ k) × (k ≡ 0 → ⊥)
 pub record LineRead (s : Step) (r : LineAnswer) (text lengths heads starts entries heads′ starts′ entries′ : List ℕ) : Type 0 where
   pub answer : Answered s r text lengths
   pub stored : s .fault ≡ 0 → Stored (s .old .rules) heads starts entries → Stored (s .new .rules) heads′ starts′ entries′
+
+-- ---- a file
+
+-- what an accepted file says, held and counted; slices that held no rules hold its rules
+pub record FineFile (o : Outcome) (t : Counts) (text lengths heads starts entries heads′ starts′ entries′ : List ℕ) : Type 0 where
+  pub content : Content
+  pub outcome : o ≡ accepted (content .names) (content .rules)
+  pub held : Holds content t text lengths
+  pub stored : Stored [] heads starts entries → Stored (content .rules) heads′ starts′ entries′
+
+abbrev pub FileAnswered : Outcome → FileAnswer → List ℕ → List ℕ → List ℕ → List ℕ → List ℕ → List ℕ → List ℕ → List ℕ → Type 0
+FileAnswered o (whole.Fine t) text lengths heads starts entries heads′ starts′ entries′ =
+    FineFile o t text lengths heads starts entries heads′ starts′ entries′
+FileAnswered o (whole.Fault number line) text lengths heads starts entries heads′ starts′ entries′ = o ≡ refused number line
+
+-- As for a line, the answer is the same over rules' slices of every length.
+pub record FileRead (o : Outcome) (r : FileAnswer) (text lengths heads starts entries heads′ starts′ entries′ : List ℕ) : Type 0 where
+  pub answer : FileAnswered o r text lengths heads starts entries heads′ starts′ entries′

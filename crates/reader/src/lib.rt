@@ -1,4 +1,4 @@
-// A marking file of whatever bytes becomes a book, or is refused under its number and line.
+// A marking file of whatever bytes becomes a book, or is refused under its number and line. Sizing reads it the same way and stores no book.
 ghost use mathlib.Core.Path.{_≡_};
 ghost use mathlib.Core.Bool.{false, not};
 ghost use mathlib.Core.List.{List, [], _∷_};
@@ -9,7 +9,8 @@ ghost use Rattle.scan.specs.declared.Word.the-variants.{Name, Rule as RuleWord}
 ghost use Rattle.book.specs.Limits.{maxEntries, maxBody};
 ghost use Rattle.reader.specs.File.{Content, nothingYet, allFields, isLiteral, wrongFields, malformed, accepted, refused, readLines, readFile};
 ghost use Rattle.reader.specs.Loading.{loadedOf};
-ghost use Rattle.reader.specs.Steps.{noCounts, Fits, Holds, Stored, tableNames, knownOf, FieldsKnown, lineStep, wordStep, Answered, LineRead};
+ghost use Rattle.reader.specs.Sizing.{sizeOf};
+ghost use Rattle.reader.specs.Steps.{noCounts, Fits, Holds, Stored, tableNames, knownOf, FieldsKnown, lineStep, wordStep, Answered, LineRead, FileRead};
 use book::Book;
 use book::Found;
 use scan::Form;
@@ -17,26 +18,6 @@ use scan::Word;
 
 // The most bytes of a file; `maxBytes` in specs/File.antt is the same number.
 const MAX_BYTES: usize = 60000;
-
-pub enum Answer {
-    Accepted,
-    Refused { number: u8, line: usize },
-}
-
-// The answer beside the book.
-pub struct Loaded {
-    pub answer: Answer,
-    pub book: Book,
-}
-
-fn refusal(number: u8, line: usize) -> Loaded
-    ensures { λ r. ⌜ r ≡ loadedOf (refused number line) ⌝ }
-{
-    Loaded {
-        answer: Answer::Refused { number, line },
-        book: book::no_book(),
-    }
-}
 
 // How much has been read: names, rules, body literals, and whether `end` came.
 struct Counts {
@@ -50,6 +31,12 @@ struct Counts {
 enum LineAnswer {
     Fine(Counts),
     Fault(u8),
+}
+
+// A file without a fault, with the counts of what it says, or its fault and the line of it.
+enum FileAnswer {
+    Fine(Counts),
+    Fault { number: u8, line: usize },
 }
 
 // ---- a name's line
@@ -264,6 +251,99 @@ fn none_yet() -> Counts
     }
 }
 
+// The lines of b, which is the file without its last byte.
+fn read_lines(
+    b: &[u8],
+    text: &mut [u8],
+    lengths: &mut [u8],
+    heads: &mut [u16],
+    starts: &mut [u16],
+    entries: &mut [u16],
+) -> FileAnswer
+    requires { ⌜ Holds nothingYet noCounts (now text) (now lengths) ⌝ }
+    ensures { λ r. ⌜ FileRead (readLines nothingYet 1 (split newline (now (b .entry)))) r (now (text .exit)) (now (lengths .exit))
+        (now (heads .entry)) (now (starts .entry)) (now (entries .entry)) (now (heads .exit)) (now (starts .exit)) (now (entries .exit)) ⌝ }
+{
+    let mut t = none_yet();
+    let mut at = 0;
+    let mut number = 1;
+    while at <= b.len() {
+        let e = scan::end_of(b, at, b'\n');
+        match judge(t, text, lengths, heads, starts, entries, &b[at..e]) {
+            LineAnswer::Fine(u) => {
+                t = u;
+            }
+            LineAnswer::Fault(k) => {
+                return FileAnswer::Fault {
+                    number: k,
+                    line: number,
+                };
+            }
+        }
+        at = e + 1;
+        number += 1;
+    }
+    if !t.ended {
+        return FileAnswer::Fault {
+            number: 9,
+            line: number,
+        };
+    }
+    FileAnswer::Fine(t)
+}
+
+// The file, into the tables that are lent for it: a rule that lies past them is judged and counted, and not stored.
+fn read_file(
+    file: &[u8],
+    text: &mut [u8],
+    lengths: &mut [u8],
+    heads: &mut [u16],
+    starts: &mut [u16],
+    entries: &mut [u16],
+) -> FileAnswer
+    requires { ⌜ Holds nothingYet noCounts (now text) (now lengths) ⌝ }
+    ensures { λ r. ⌜ FileRead (readFile (now (file .entry))) r (now (text .exit)) (now (lengths .exit))
+        (now (heads .entry)) (now (starts .entry)) (now (entries .entry)) (now (heads .exit)) (now (starts .exit)) (now (entries .exit)) ⌝ }
+{
+    let n = file.len();
+    if MAX_BYTES < n {
+        return FileAnswer::Fault { number: 1, line: 0 };
+    }
+    if !scan::all_text(file) {
+        return FileAnswer::Fault { number: 2, line: 0 };
+    }
+    // A file of no bytes has no lines, and needs no `end`.
+    if n == 0 {
+        return FileAnswer::Fine(none_yet());
+    }
+    if file[n - 1] != b'\n' {
+        return FileAnswer::Fault { number: 3, line: 0 };
+    }
+    read_lines(&file[0..n - 1], text, lengths, heads, starts, entries)
+}
+
+// ---- loading
+
+pub enum Answer {
+    Accepted,
+    Refused { number: u8, line: usize },
+}
+
+// The answer beside the book.
+pub struct Loaded {
+    pub answer: Answer,
+    pub book: Book,
+}
+
+fn refusal(number: u8, line: usize) -> Loaded
+    ensures { λ r. ⌜ r ≡ loadedOf (refused number line) ⌝ }
+{
+    Loaded {
+        answer: Answer::Refused { number, line },
+        book: book::no_book(),
+    }
+}
+
 // The tables of a file that was read to its end are its book.
 fn accepted_with(
     t: Counts,
@@ -290,64 +370,55 @@ fn accepted_with(
     }
 }
 
-// The lines of b, which is the file without its last byte.
-fn read_lines(b: &[u8]) -> Loaded
-    ensures { λ r. ⌜ r ≡ loadedOf (readLines nothingYet 1 (split newline (now (b .entry)))) ⌝ }
+pub fn read(file: &[u8]) -> Loaded
+    ensures { λ r. ⌜ r ≡ loadedOf (readFile (now (file .entry))) ⌝ }
 {
     let mut text = [0u8; book::MAX_TEXT];
     let mut lengths = [0u8; book::MAX_NAMES];
     let mut heads = [0u16; book::MAX_RULES];
     let mut starts = [0u16; book::MAX_STARTS];
     let mut entries = [0u16; book::MAX_ENTRIES];
-    let mut t = none_yet();
-    let mut at = 0;
-    let mut number = 1;
-    while at <= b.len() {
-        let e = scan::end_of(b, at, b'\n');
-        match judge(
-            t,
-            &mut text,
-            &mut lengths,
-            &mut heads,
-            &mut starts,
-            &mut entries,
-            &b[at..e],
-        ) {
-            LineAnswer::Fine(u) => {
-                t = u;
-            }
-            LineAnswer::Fault(k) => {
-                return refusal(k, number);
-            }
-        }
-        at = e + 1;
-        number += 1;
+    match read_file(
+        file,
+        &mut text,
+        &mut lengths,
+        &mut heads,
+        &mut starts,
+        &mut entries,
+    ) {
+        FileAnswer::Fine(t) => accepted_with(t, text, lengths, heads, starts, entries),
+        FileAnswer::Fault { number, line } => refusal(number, line),
     }
-    if !t.ended {
-        return refusal(9, number);
-    }
-    accepted_with(t, text, lengths, heads, starts, entries)
 }
 
-pub fn read(file: &[u8]) -> Loaded
-    ensures { λ r. ⌜ r ≡ loadedOf (readFile (now (file .entry))) ⌝ }
+// ---- sizing
+
+// What a file fills of each table, or the refusal that loading gives.
+pub enum SizeAnswer {
+    Accepted {
+        names: usize,
+        rules: usize,
+        body_literals: usize,
+    },
+    Refused {
+        number: u8,
+        line: usize,
+    },
+}
+
+// How much of each table a file fills, with no book stored: it is read as for loading, over slices that have no room for a rule. The names are kept, since 6 and 7
+// look them up.
+pub fn size(file: &[u8]) -> SizeAnswer
+    ensures { λ r. ⌜ r ≡ sizeOf (readFile (now (file .entry))) ⌝ }
 {
-    let n = file.len();
-    if MAX_BYTES < n {
-        return refusal(1, 0);
+    let mut text = [0u8; book::MAX_TEXT];
+    let mut lengths = [0u8; book::MAX_NAMES];
+    match read_file(file, &mut text, &mut lengths, &mut [], &mut [], &mut []) {
+        FileAnswer::Fine(t) => SizeAnswer::Accepted {
+            names: t.names,
+            rules: t.rules,
+            body_literals: t.used,
+        },
+        FileAnswer::Fault { number, line } => SizeAnswer::Refused { number, line },
     }
-    if !scan::all_text(file) {
-        return refusal(2, 0);
-    }
-    // A file of no bytes has no lines, and needs no `end`.
-    if n == 0 {
-        return Loaded {
-            answer: Answer::Accepted,
-            book: book::no_book(),
-        };
-    }
-    if file[n - 1] != b'\n' {
-        return refusal(3, 0);
-    }
-    read_lines(&file[0..n - 1])
 }

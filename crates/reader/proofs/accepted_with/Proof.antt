@@ -4,7 +4,7 @@ use Rattle.book.specs.declared.Book.{Book}
 use Rattle.reader.specs.Loading.{loadedOf}
 use Rattle.reader.specs.declared.Answer.the-variants.{Accepted}
 use Rattle.reader.specs.declared.Loaded.{Loaded}
-use Rattle.reader.proofs.Sizes.{book-held}
+use Rattle.reader.proofs.Held.{book-held}
 use Rattle.reader.proofs.accepted_with.Statement.{statement}
 use Rattle.reader.proofs.accepted_with.Tie as tie
 

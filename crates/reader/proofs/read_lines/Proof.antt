@@ -9,24 +9,30 @@ use lib.ListN.{length, take, drop}
 use borrow.Author.Tests.{not-true, not-false}
 use Rattle.scan.specs.Text.{newline, split, fields}
 use Rattle.reader.specs.File.{nothingYet, accepted, refused, readLines, withLine}
-use Rattle.reader.specs.Loading.{loadedOf}
 use Rattle.reader.proofs.Answers.{was-fine, was-fault}
 use Rattle.reader.proofs.Progress.{lines-go, lines-stop, lines-end, ReadTo, read-none}
-use Rattle.reader.proofs.Sizes.{text-size, lengths-size, heads-size, starts-size, entries-size}
 use Rattle.reader.proofs.read_lines.Statement.{statement}
 use Rattle.reader.proofs.read_lines.Tie as tie
 
 abbrev Inv-loop : tie.InvT-loop
 Inv-loop b text₀ lengths₀ heads₀ starts₀ entries₀ t₀ at₀ number₀ text lengths heads starts entries t at number =
-    (at ≤ length b + 1) × (number ≤ at + 1) × ReadTo b t at number text lengths heads starts entries
+    (at ≤ length b + 1) × (number ≤ at + 1) × ReadTo b t at number text lengths heads₀ starts₀ entries₀ heads starts entries
+    × (length text ≡ length text₀) × (length lengths ≡ length lengths₀)
+    × (length heads ≡ length heads₀) × (length starts ≡ length starts₀) × (length entries ≡ length entries₀)
 
 abbrev μ-loop : tie.MeasureT-loop
 μ-loop b text₀ lengths₀ heads₀ starts₀ entries₀ t₀ at₀ number₀ text lengths heads starts entries t at number = length b + 1 - at
 
 -- ---- the places: the loop's head, the end of a line, the line judged, and its answer
 
+abbrev at-size : tie.At-loop Inv-loop μ-loop → tie.After-shared-slice-known Inv-loop μ-loop
+at-size c = c .before .before .before .before .before .before .before
+
+abbrev at-start : tie.At-loop Inv-loop μ-loop → tie.Start Inv-loop μ-loop
+at-start c = at-size c .before
+
 abbrev bytes-of : tie.At-loop Inv-loop μ-loop → List ℕ
-bytes-of c = c .before .before .before .args .b .now
+bytes-of c = at-start c .args .b .now
 
 abbrev at-loop : tie.After-end-of Inv-loop μ-loop → tie.At-loop Inv-loop μ-loop
 at-loop c = c .before .before
@@ -34,11 +40,14 @@ at-loop c = c .before .before
 abbrev at-end : tie.After-judge Inv-loop μ-loop → tie.After-end-of Inv-loop μ-loop
 at-end c = c .before .before .before .before .before .before .before
 
-abbrev at-fine : tie.After-known-told Inv-loop μ-loop → tie.After-judge Inv-loop μ-loop
-at-fine c = c .before .before .before .before .before .before .before .before
+abbrev at-answer : tie.After-slice-known10 Inv-loop μ-loop → tie.After-judge Inv-loop μ-loop
+at-answer c = c .before .before .before .before .before .before .before .before .before .before
 
-abbrev at-fault : tie.After-refusal Inv-loop μ-loop → tie.After-judge Inv-loop μ-loop
-at-fault c = c .before .before .before .before .before .before .before .before .before
+abbrev at-fine : tie.After-known-told Inv-loop μ-loop → tie.After-judge Inv-loop μ-loop
+at-fine c = at-answer (c .before .before .before)
+
+abbrev at-fault : tie.After-known-told2 Inv-loop μ-loop → tie.After-judge Inv-loop μ-loop
+at-fault c = at-answer (c .before .before .before)
 
 -- the fields of the line that ends there
 abbrev line-at : tie.After-end-of Inv-loop μ-loop → List (List ℕ)
@@ -49,13 +58,14 @@ inside c = c .end-of .ensures .2 (c .before .loop-test .taken)
 
 -- the outcome, where no line is left
 last : (c : tie.After-loop Inv-loop μ-loop) {x : Bool} → c .before .loop .t .ended ≡ x
-    → cond x (accepted (c .before .loop .inv .2 .content .names) (c .before .loop .inv .2 .content .rules)) (refused 9 (c .before .loop .number))
-    ≡ readLines nothingYet 1 (split newline (bytes-of (c .before)))
+    → readLines nothingYet 1 (split newline (bytes-of (c .before)))
+    ≡ cond x (accepted (c .before .loop .inv .2 .content .names) (c .before .loop .inv .2 .content .rules)) (refused 9 (c .before .loop .number))
 last c {x} e =
     let was = c .before .loop in
-    let d = was .inv .2 .content in
-    sym (lines-end d (was .number) (bytes-of (c .before)) (was .at) (c .loop-test .left)
-    ∙ ap (λ (z : Bool). cond z (accepted (d .names) (d .rules)) (refused 9 (was .number))) (sym (was .inv .2 .held .counted .ended-is) ∙ e)) ∙ was .inv .2 .same
+    let read = was .inv .2 in
+    let d = read .content in
+    sym (read .same) ∙ lines-end d (was .number) (bytes-of (c .before)) (was .at) (c .loop-test .left)
+    ∙ ap (λ (z : Bool). cond z (accepted (d .names) (d .rules)) (refused 9 (was .number))) (sym (read .held .counted .ended-is) ∙ e)
 
 -- ---- the needs
 
@@ -63,34 +73,12 @@ none-yet-requires : tie.Need-none-yet-requires Inv-loop μ-loop
 none-yet-requires c κs = search needs
 
 loop-holds : tie.Need-loop-holds Inv-loop μ-loop
-loop-holds c = (search needs, search needs, rw (c .none-yet .ensures) (read-none (c .before .before .args .b .now)))
+loop-holds c =
+    let start = c .before .before .before .before .before .before .before in
+    (search needs, search needs, rw (c .none-yet .ensures) (read-none (start .args .b .now) (start .pre)), search needs, search needs, search needs, search needs, search needs)
 
 end-of-requires : tie.Need-end-of-requires Inv-loop μ-loop
 end-of-requires c κs = search needs
-
-slice-aggregate-judge : tie.Need-slice-aggregate-judge Inv-loop μ-loop
-slice-aggregate-judge c = let size = text-size (at-loop (c .before) .loop .inv .2 .held) in search needs
-
-slice-aggregate-judge-2 : tie.Need-slice-aggregate-judge-2 Inv-loop μ-loop
-slice-aggregate-judge-2 c = let size = lengths-size (at-loop (c .before .before) .loop .inv .2 .held) in search needs
-
-slice-aggregate-judge-3 : tie.Need-slice-aggregate-judge-3 Inv-loop μ-loop
-slice-aggregate-judge-3 c =
-    let read = at-loop (c .before .before .before) .loop .inv .2 in
-    let size = heads-size (read .held) (read .stored) in
-    search needs
-
-slice-aggregate-judge-4 : tie.Need-slice-aggregate-judge-4 Inv-loop μ-loop
-slice-aggregate-judge-4 c =
-    let read = at-loop (c .before .before .before .before) .loop .inv .2 in
-    let size = starts-size (read .held) (read .stored) in
-    search needs
-
-slice-aggregate-judge-5 : tie.Need-slice-aggregate-judge-5 Inv-loop μ-loop
-slice-aggregate-judge-5 c =
-    let read = at-loop (c .before .before .before .before .before) .loop .inv .2 in
-    let size = entries-size (read .held) (read .stored) in
-    search needs
 
 sub-judge : tie.Need-sub-judge Inv-loop μ-loop
 sub-judge c = search needs
@@ -110,8 +98,20 @@ enum-known-u c = search needs
 enum-known-k : tie.Need-enum-known-k Inv-loop μ-loop
 enum-known-k c = search needs
 
-refusal-requires : tie.Need-refusal-requires Inv-loop μ-loop
-refusal-requires c κs = search needs
+same-length : tie.Need-same-length Inv-loop μ-loop
+same-length c = search needs
+
+same-length-2 : tie.Need-same-length-2 Inv-loop μ-loop
+same-length-2 c = search needs
+
+same-length-3 : tie.Need-same-length-3 Inv-loop μ-loop
+same-length-3 c = search needs
+
+same-length-4 : tie.Need-same-length-4 Inv-loop μ-loop
+same-length-4 c = search needs
+
+same-length-5 : tie.Need-same-length-5 Inv-loop μ-loop
+same-length-5 c = search needs
 
 returns : tie.Need-returns Inv-loop μ-loop
 returns c =
@@ -119,15 +119,25 @@ returns c =
     let end = at-end judged in
     let was = at-loop end .loop in
     let read = was .inv .2 in
-    let told = was-fault (judged .judge .ensures (read .content) (read .held)) (c .before .before .k .given .1) in
-    c .refusal .ensures
-    ∙ ap loadedOf (sym (lines-stop (read .content) (was .number) (bytes-of (at-loop end)) (was .at) (end .end-of .result) (end .before .loop-test .taken) (end .end-of .ensures .0) _ (told .0) (told .1)) ∙ read .same)
+    let told = was-fault (judged .judge .ensures (read .content) (read .held)) (c .before .k .given .1) in
+    record {
+      answer = sym (read .same)
+          ∙ lines-stop (read .content) (was .number) (bytes-of (at-loop end)) (was .at) (end .end-of .result) (end .before .loop-test .taken) (end .end-of .ensures .0) _ (told .0) (told .1);
+    }
 
 add-at : tie.Need-add-at Inv-loop μ-loop
-add-at c = let within = inside (at-end (at-fine c)) in omega arith
+add-at c =
+    let end = at-end (at-fine c) in
+    let within = inside end in
+    let size = at-size (at-loop end) .shared-slice-known .given in
+    omega arith
 
 add-number : tie.Need-add-number Inv-loop μ-loop
-add-number c = omega arith
+add-number c =
+    let end = at-end (at-fine c) in
+    let size = at-size (at-loop end) .shared-slice-known .given in
+    let count = at-loop end .loop .inv .1 in
+    omega arith
 
 loop-less : tie.Need-loop-less Inv-loop μ-loop
 loop-less c =
@@ -150,25 +160,53 @@ loop-again c =
       record {
         content = withLine (read .content) (line-at end);
         held = told .1;
-        stored = line .stored (told .0) (read .stored);
+        stored = λ none. line .stored (told .0) (read .stored none);
         same = sym (lines-go (read .content) (was .number) (bytes-of (at-loop end)) (was .at) (end .end-of .result) (end .before .loop-test .taken) (end .end-of .ensures .0) (told .0)) ∙ read .same;
       },
+      search needs,
+      search needs,
+      search needs,
+      search needs,
+      search needs,
     )
 
-refusal-requires-2 : tie.Need-refusal-requires-2 Inv-loop μ-loop
-refusal-requires-2 c κs = search needs
+same-length-6 : tie.Need-same-length-6 Inv-loop μ-loop
+same-length-6 c = search needs
+
+same-length-7 : tie.Need-same-length-7 Inv-loop μ-loop
+same-length-7 c = search needs
+
+same-length-8 : tie.Need-same-length-8 Inv-loop μ-loop
+same-length-8 c = search needs
+
+same-length-9 : tie.Need-same-length-9 Inv-loop μ-loop
+same-length-9 c = search needs
+
+same-length-10 : tie.Need-same-length-10 Inv-loop μ-loop
+same-length-10 c = search needs
 
 returns-2 : tie.Need-returns-2 Inv-loop μ-loop
-returns-2 c = c .refusal2 .ensures ∙ ap loadedOf (last (c .before .before .before) (not-true _ (c .before .if1 .taken)))
+returns-2 c = record { answer = last (c .before .before) (not-true _ (c .if1 .taken)) }
 
-accepted-with-requires : tie.Need-accepted-with-requires Inv-loop μ-loop
-accepted-with-requires c κs = search needs
+same-length-11 : tie.Need-same-length-11 Inv-loop μ-loop
+same-length-11 c = search needs
+
+same-length-12 : tie.Need-same-length-12 Inv-loop μ-loop
+same-length-12 c = search needs
+
+same-length-13 : tie.Need-same-length-13 Inv-loop μ-loop
+same-length-13 c = search needs
+
+same-length-14 : tie.Need-same-length-14 Inv-loop μ-loop
+same-length-14 c = search needs
+
+same-length-15 : tie.Need-same-length-15 Inv-loop μ-loop
+same-length-15 c = search needs
 
 returns-3 : tie.Need-returns-3 Inv-loop μ-loop
 returns-3 c =
-    let done = c .before .before .before in
-    let read = done .before .loop .inv .2 in
-    c .accepted-with .ensures (read .content) (read .held) (read .stored) ∙ ap loadedOf (last done (not-false _ (c .before .if1 .left)))
+    let read = c .before .before .before .loop .inv .2 in
+    record { answer = record { content = read .content; outcome = last (c .before .before) (not-false _ (c .if1 .left)); held = read .held; stored = read .stored } }
 
 pub read-lines-spec : {M : Type 1} → statement M
 read-lines-spec =
@@ -179,24 +217,31 @@ read-lines-spec =
     none-yet-requires
     loop-holds
     end-of-requires
-    slice-aggregate-judge
-    slice-aggregate-judge-2
-    slice-aggregate-judge-3
-    slice-aggregate-judge-4
-    slice-aggregate-judge-5
     sub-judge
     part-judge-start
     part-judge-end
     judge-requires
     enum-known-u
     enum-known-k
-    refusal-requires
+    same-length
+    same-length-2
+    same-length-3
+    same-length-4
+    same-length-5
     returns
     add-at
     add-number
     loop-less
     loop-again
-    refusal-requires-2
+    same-length-6
+    same-length-7
+    same-length-8
+    same-length-9
+    same-length-10
     returns-2
-    accepted-with-requires
+    same-length-11
+    same-length-12
+    same-length-13
+    same-length-14
+    same-length-15
     returns-3)

@@ -1,0 +1,63 @@
+-- `size`: the counts of a file that was read over empty slices are its figures.
+use borrow.Author.Needs.{needs}
+use mathlib.Core.Path.{_≡_, sym, ap, _∙_}
+use Rattle.reader.specs.Sizing.{sizeOf}
+use Rattle.reader.proofs.Answers.{file-fine, file-fault}
+use Rattle.reader.proofs.Held.{nothing-held}
+use Rattle.reader.proofs.Sizing.{counted-size, refused-size}
+use Rattle.reader.proofs.size.Statement.{statement}
+use Rattle.reader.proofs.size.Tie as tie
+
+-- the file read
+abbrev at-read : tie.After-t20 → tie.After-read-file
+at-read c = c .before .before .before .before .before
+
+slice-aggregate-read-file : tie.Need-slice-aggregate-read-file
+slice-aggregate-read-file c = search needs
+
+slice-aggregate-read-file-2 : tie.Need-slice-aggregate-read-file-2
+slice-aggregate-read-file-2 c = search needs
+
+slice-aggregate-read-file-3 : tie.Need-slice-aggregate-read-file-3
+slice-aggregate-read-file-3 c = search needs
+
+slice-aggregate-read-file-4 : tie.Need-slice-aggregate-read-file-4
+slice-aggregate-read-file-4 c = search needs
+
+slice-aggregate-read-file-5 : tie.Need-slice-aggregate-read-file-5
+slice-aggregate-read-file-5 c = search needs
+
+read-file-requires : tie.Need-read-file-requires
+read-file-requires c κs = nothing-held
+
+enum-known-t : tie.Need-enum-known-t
+enum-known-t c = search needs
+
+enum-known-number : tie.Need-enum-known-number
+enum-known-number c = search needs
+
+returns : tie.Need-returns
+returns c =
+    let read = at-read (c .before .before .before) in
+    let fine = file-fine (read .read-file .ensures) (c .before .t .given .1) in
+    counted-size (fine .held) ∙ ap sizeOf (sym (fine .outcome))
+
+returns-2 : tie.Need-returns-2
+returns-2 c =
+    let read = at-read (c .before .before .before) in
+    sym (ap sizeOf (file-fault (read .read-file .ensures) (c .before .number .given .1)) ∙ refused-size _ _)
+
+pub size-spec : {M : Type 1} → statement M
+size-spec =
+    tie.close
+    (tie.spec
+    slice-aggregate-read-file
+    slice-aggregate-read-file-2
+    slice-aggregate-read-file-3
+    slice-aggregate-read-file-4
+    slice-aggregate-read-file-5
+    read-file-requires
+    enum-known-t
+    enum-known-number
+    returns
+    returns-2)
