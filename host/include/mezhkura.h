@@ -12,6 +12,9 @@
  *
  * A file of no bytes is a book of no names and no rules: it loads.
  *
+ * mezhkura_size takes no desk. It says how many names, rules and body literals a file fills, and refuses exactly the
+ * files that a load refuses, with the same number and line.
+ *
  * Every call runs on a stack of 512 KB.
  */
 #ifndef MEZHKURA_H
@@ -29,15 +32,18 @@ typedef struct {
     uint64_t words[4];
 } mezhkura_litset;
 
+/* How much a book has room for: names, rules, and body literals of all rules together. */
+enum { MEZHKURA_MOST_NAMES = 128, MEZHKURA_MOST_RULES = 512, MEZHKURA_MOST_BODY_LITERALS = 2048 };
+
 /* A loaded marking book. */
 typedef struct {
     size_t names;
     size_t rules;
-    uint8_t text[2048];
-    uint8_t lengths[128];
-    uint16_t heads[512];
-    uint16_t starts[513];
-    uint16_t entries[2048];
+    uint8_t text[16 * MEZHKURA_MOST_NAMES];
+    uint8_t lengths[MEZHKURA_MOST_NAMES];
+    uint16_t heads[MEZHKURA_MOST_RULES];
+    uint16_t starts[MEZHKURA_MOST_RULES + 1];
+    uint16_t entries[MEZHKURA_MOST_BODY_LITERALS];
 } mezhkura_book;
 
 /* M, the literals that are true, and N, those that aren't false. It is written `struct mezhkura_model`, since
@@ -65,6 +71,15 @@ typedef struct {
     mezhkura_shelf shelf;
     mezhkura_lesson lesson;
 } mezhkura_desk;
+
+/* line: that of a refused file, 0 for the whole file. The figures of a refused file are 0. */
+typedef struct {
+    uint8_t number;
+    size_t line;
+    size_t names;
+    size_t rules;
+    size_t body_literals;
+} mezhkura_size_reply;
 
 /* line: that of a refused file, 0 for the whole file. desk: the desk after the call. */
 typedef struct {
@@ -107,6 +122,7 @@ typedef struct {
     size_t length;
 } mezhkura_listing_reply;
 
+mezhkura_size_reply mezhkura_size(const uint8_t *file, size_t file_len);
 /* Literal 2n is name n, and 2n + 1 its explicit negation ("shown not to be"). */
 mezhkura_desk mezhkura_fresh(void);
 mezhkura_load_reply mezhkura_load(mezhkura_desk desk, const uint8_t *file, size_t file_len);

@@ -56,6 +56,82 @@ pub struct Model {
     pub contradictory: bool,
 }
 
+/// Names of one book (document 01, "The marking file").
+pub const MOST_NAMES: usize = 128;
+/// Rules of one book.
+pub const MOST_RULES: usize = 512;
+/// Body literals of all rules of one book together.
+pub const MOST_BODY_LITERALS: usize = 2_048;
+
+/// How much of the tables a marking file fills: the names, rules and body literals of the book that a load
+/// of it would leave.
+#[derive(Clone, Copy, Debug, PartialEq, Eq)]
+pub struct BookSize {
+    pub names: usize,
+    pub rules: usize,
+    /// Body literals of all rules together.
+    pub body_literals: usize,
+}
+
+impl BookSize {
+    /// How much of the table of names is filled.
+    pub fn names_share(self) -> Share {
+        Share {
+            filled: self.names,
+            room: MOST_NAMES,
+        }
+    }
+
+    /// How much of the table of rules is filled.
+    pub fn rules_share(self) -> Share {
+        Share {
+            filled: self.rules,
+            room: MOST_RULES,
+        }
+    }
+
+    /// How much of the table of body literals is filled.
+    pub fn body_literals_share(self) -> Share {
+        Share {
+            filled: self.body_literals,
+            room: MOST_BODY_LITERALS,
+        }
+    }
+}
+
+impl fmt::Display for BookSize {
+    fn fmt(&self, f: &mut fmt::Formatter<'_>) -> fmt::Result {
+        write!(
+            f,
+            "names {}, rules {}, body literals {}",
+            self.names_share(),
+            self.rules_share(),
+            self.body_literals_share()
+        )
+    }
+}
+
+/// How much of a table is filled.
+#[derive(Clone, Copy, Debug, PartialEq, Eq)]
+pub struct Share {
+    pub filled: usize,
+    /// How much the table has room for.
+    pub room: usize,
+}
+
+impl Share {
+    /// The percentage, rounded down: it is 100 exactly where nothing more fits.
+    pub fn percent(self) -> usize {
+        100 * self.filled / self.room
+    }
+}
+
+impl fmt::Display for Share {
+    fn fmt(&self, f: &mut fmt::Formatter<'_>) -> fmt::Result {
+        write!(f, "{} of {} ({} %)", self.filled, self.room, self.percent())
+    }
+}
+
 /// A fault of a marking file.
 #[derive(Clone, Copy, Debug, PartialEq, Eq)]
 pub enum Fault {
@@ -209,6 +285,19 @@ impl std::error::Error for Refused {}
 #[cfg(test)]
 mod tests {
     use super::*;
+
+    #[test]
+    fn only_a_full_table_is_filled_to_100_percent() {
+        let size = BookSize {
+            names: 127,
+            rules: 512,
+            body_literals: 20,
+        };
+        assert_eq!(
+            size.to_string(),
+            "names 127 of 128 (99 %), rules 512 of 512 (100 %), body literals 20 of 2048 (0 %)"
+        );
+    }
 
     #[test]
     fn numbers_and_refusals_name_each_other() {

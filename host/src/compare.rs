@@ -2,7 +2,7 @@
 //! book that the list leaves, and says where the two first differ. Beside that it looks after every call
 //! whether the model is that of the book and the facts, whatever came before.
 
-use crate::answer::{Model, Question, Refused, Tree, Verdict};
+use crate::answer::{BookSize, Model, Question, Refused, Tree, Verdict};
 use crate::gen::Call;
 use crate::second::{self, Desk, Program};
 use crate::shrink::shortest_calls;
@@ -12,6 +12,8 @@ use std::ops::AddAssign;
 /// The calls that both implementations answer, as the comparison makes them on the desk that it holds
 /// against the second implementation's.
 pub trait Calls {
+    /// Sizing, which has no desk: whatever this one holds, the answer comes from the file alone.
+    fn size(&self, file: &[u8]) -> Result<BookSize, Refused>;
     fn load(&mut self, file: &[u8]) -> Result<(), Refused>;
     fn put_in(&mut self, literal: usize) -> Result<(), Refused>;
     fn take_out(&mut self, literal: usize) -> Result<(), Refused>;
@@ -201,7 +203,7 @@ fn both(call: &Call, second: &mut Desk, other: &mut dyn Calls) -> (Told, Told) {
 
 fn both_answers(call: &Call, second: &mut Desk, other: &mut dyn Calls) -> (Told, Told) {
     match call {
-        Call::Load(file) => (told(second.load(file)), told(other.load(file))),
+        Call::Load(file) => both_loads(file, second, other),
         Call::PutIn(l) => (told(second.put_in(*l)), told(other.put_in(*l))),
         Call::TakeOut(l) => (told(second.take_out(*l)), told(other.take_out(*l))),
         Call::Verdict(l) => (told(second.verdict(*l)), told(other.verdict(*l))),
@@ -209,6 +211,15 @@ fn both_answers(call: &Call, second: &mut Desk, other: &mut dyn Calls) -> (Told,
         Call::Model => (told(second.model()), told(other.model())),
         Call::Listing { margin } => both_listings(*margin, second, other),
     }
+}
+
+/// Both loads. Every file that is loaded is sized as well.
+fn both_loads(file: &[u8], second: &mut Desk, other: &mut dyn Calls) -> (Told, Told) {
+    let (our_size, their_size) = (second::size(file), other.size(file));
+    let (mut ours, mut theirs) = (told(second.load(file)), told(other.load(file)));
+    ours.text += &format!(", sized {our_size:?}");
+    theirs.text += &format!(", sized {their_size:?}");
+    (ours, theirs)
 }
 
 /// What the second implementation says to a question: what M and N say, and its walk beside them where

@@ -2,10 +2,15 @@
 //!
 //! ```
 //! use mezhkura::answer::{Question, Refused, Tree, Verdict};
-//! use mezhkura::engine::Desk;
+//! use mezhkura::engine::{self, Desk};
+//!
+//! let file = b"name,brake_held\nname,may_park\nrule,may_park,brake_held\nend\n";
+//! let size = engine::size(file)?;
+//! assert_eq!((size.names, size.rules, size.body_literals), (2, 1, 1));
+//! assert_eq!(size.names_share().to_string(), "2 of 128 (1 %)");
 //!
 //! let mut desk = Desk::fresh();
-//! desk.load(b"name,brake_held\nname,may_park\nrule,may_park,brake_held\nend\n")?;
+//! desk.load(file)?;
 //!
 //! // Name 0 is `brake_held`: its literals are 0, and 1 for "shown not to be".
 //! desk.put_in(0)?;
@@ -21,11 +26,27 @@
 //! # Ok::<(), Refused>(())
 //! ```
 
-use crate::answer::{Model, Question, Refused, Tree, Verdict};
+use crate::answer::{BookSize, Model, Question, Refused, Tree, Verdict};
 use crate::compare::Calls;
 use crate::exports;
 use std::collections::BTreeSet;
 use std::fmt;
+
+// Safety of the calls below: the exported functions are proved for every argument and every bit pattern
+// of a desk, read `file` only within its length and write `buffer` only within its length.
+
+/// How much of the tables a marking file fills, with no book stored: it takes no desk and changes none.
+///
+/// Refused exactly as a load of the file is, with numbers 1 to 9 and a line.
+pub fn size(file: &[u8]) -> Result<BookSize, Refused> {
+    let reply = unsafe { exports::mezhkura_size(file.as_ptr(), file.len()) };
+    accepted(reply.number, reply.line)?;
+    Ok(BookSize {
+        names: reply.names,
+        rules: reply.rules,
+        body_literals: reply.body_literals,
+    })
+}
 
 /// A desk: a marking book, once one is loaded, and a lesson beside it.
 ///
@@ -35,8 +56,6 @@ use std::fmt;
 #[derive(Clone, PartialEq, Eq)]
 pub struct Desk(Box<exports::Desk>);
 
-// Safety of the calls below: the exported functions are proved for every argument and every bit pattern
-// of a desk, read `file` only within its length and write `buffer` only within its length.
 impl Desk {
     /// A fresh desk, with no book and no facts.
     pub fn fresh() -> Desk {
@@ -151,6 +170,10 @@ fn members(set: exports::LitSet) -> BTreeSet<usize> {
 
 /// For the comparison.
 impl Calls for Desk {
+    fn size(&self, file: &[u8]) -> Result<BookSize, Refused> {
+        size(file)
+    }
+
     fn load(&mut self, file: &[u8]) -> Result<(), Refused> {
         Desk::load(self, file)
     }

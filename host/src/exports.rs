@@ -4,6 +4,7 @@
 //! meaning of numbers. A slice is two arguments, a pointer and a count. No function has a condition on
 //! its arguments: every bit pattern of a struct has a meaning.
 
+use crate::answer::{MOST_BODY_LITERALS, MOST_NAMES, MOST_RULES};
 use std::mem::size_of;
 
 /// A set of literals: bit l % 64 of word l / 64 says whether l is a member.
@@ -19,11 +20,11 @@ pub struct LitSet {
 pub struct Book {
     pub names: usize,
     pub rules: usize,
-    pub text: [u8; 2048],
-    pub lengths: [u8; 128],
-    pub heads: [u16; 512],
-    pub starts: [u16; 513],
-    pub entries: [u16; 2048],
+    pub text: [u8; 16 * MOST_NAMES],
+    pub lengths: [u8; MOST_NAMES],
+    pub heads: [u16; MOST_RULES],
+    pub starts: [u16; MOST_RULES + 1],
+    pub entries: [u16; MOST_BODY_LITERALS],
 }
 
 /// M, the literals that are true, and N, those that aren't false.
@@ -61,6 +62,17 @@ pub struct Desk {
 
 /// The number of a reply to a call that wasn't turned down.
 pub const ACCEPTED: u8 = 0;
+
+/// The reply to sizing: what a file fills of each table. The line is that of a refused file, of which the
+/// figures are 0.
+#[repr(C)]
+pub struct SizeReply {
+    pub number: u8,
+    pub line: usize,
+    pub names: usize,
+    pub rules: usize,
+    pub body_literals: usize,
+}
 
 /// The reply to a load: the desk after it. The line is that of a refused file.
 #[repr(C)]
@@ -115,6 +127,7 @@ const _: () = {
     assert!(size_of::<Shelf>() == 8352);
     assert!(size_of::<Lesson>() == 96);
     assert!(size_of::<Desk>() == 8448);
+    assert!(size_of::<SizeReply>() == 40);
     assert!(size_of::<LoadReply>() == 8464);
     assert!(size_of::<ChangeReply>() == 8456);
     assert!(size_of::<VerdictReply>() == 2);
@@ -128,6 +141,7 @@ pub const TREE_T: u8 = 0;
 pub const TREE_TU: u8 = 1;
 
 extern "C" {
+    pub fn mezhkura_size(file: *const u8, file_len: usize) -> SizeReply;
     pub fn mezhkura_fresh() -> Desk;
     pub fn mezhkura_load(desk: Desk, file: *const u8, file_len: usize) -> LoadReply;
     pub fn mezhkura_put_in(desk: Desk, literal: usize) -> ChangeReply;

@@ -1,11 +1,11 @@
 //! On random small books: the searches agree with M and N, M and N with the published notions, and
 //! the comparison of two desks finds wrong ones.
 
-use mezhkura::answer::{Model, Question, Refused, Tree, Verdict};
+use mezhkura::answer::{BookSize, Model, Question, Refused, Tree, Verdict};
 use mezhkura::compare::{agree, answer_by_model, explain, models_stand, questions};
 use mezhkura::compare::{Asked, Calls, Stood, MOST_VISITS};
 use mezhkura::gen::{self, Random, Size, MIDDLE, SMALL};
-use mezhkura::second::{contradictory_name, gamma, search, Book, Desk, Program, Walk};
+use mezhkura::second::{contradictory_name, gamma, search, size, Book, Desk, Program, Walk};
 use std::collections::BTreeSet;
 
 /// The seed of the random books; another can be set by hand.
@@ -202,6 +202,8 @@ impl Wrong {
 #[derive(Clone, Copy, Debug, PartialEq)]
 enum How {
     NotAtAll,
+    HeadsAreSized,
+    SizesNoRefusedFile,
     PutInStoresNothing,
     SearchSaysNo,
     LongSearchSaysNo,
@@ -216,6 +218,23 @@ enum How {
 }
 
 impl Calls for Wrong {
+    fn size(&self, file: &[u8]) -> Result<BookSize, Refused> {
+        let sized = size(file);
+        match self.how {
+            How::HeadsAreSized => sized.map(|size| BookSize {
+                body_literals: size.body_literals + size.rules,
+                ..size
+            }),
+            // What the lines before the refused one fill.
+            How::SizesNoRefusedFile => sized.or_else(|refused| {
+                let lines = gen::lines_of(file);
+                let before = lines[..refused.line().saturating_sub(1).min(lines.len())].concat();
+                size(&[&before[..], b"end\n"].concat())
+            }),
+            _ => sized,
+        }
+    }
+
     fn load(&mut self, file: &[u8]) -> Result<(), Refused> {
         let facts = self.desk.facts().clone();
         self.desk.load(file)?;
@@ -329,6 +348,8 @@ fn a_desk_that_agrees_is_found_to_agree() {
 #[test]
 fn wrong_desks_are_found_and_explained_in_few_calls() {
     for how in [
+        How::HeadsAreSized,
+        How::SizesNoRefusedFile,
         How::PutInStoresNothing,
         How::SearchSaysNo,
         How::LongSearchSaysNo,

@@ -1,7 +1,7 @@
 //! The edges that document 01 names under "Run", and every refusal number with its line.
 
 use mezhkura::answer::{Question, Refused, Tree, Verdict};
-use mezhkura::second::{program_output, Desk};
+use mezhkura::second::{program_output, size, Desk};
 
 fn declared(names: usize) -> String {
     (0..names).map(|n| format!("name,n{n}\n")).collect()
@@ -37,6 +37,13 @@ fn assert_loads(file: &str, names: usize, rules: usize) {
     let output = program_output(file.as_bytes());
     let header = format!("model,{names},{rules},0\n");
     assert!(output.starts_with(&header), "{output}");
+    let size = size(file.as_bytes()).expect("what loads is sized");
+    assert_eq!((size.names, size.rules), (names, rules), "{file}");
+}
+
+fn assert_body_literals(file: &str, body_literals: usize) {
+    let size = size(file.as_bytes()).expect("the file loads");
+    assert_eq!(size.body_literals, body_literals, "{file}");
 }
 
 fn assert_refused(file: impl AsRef<[u8]>, number: u8, line: usize) {
@@ -47,6 +54,8 @@ fn assert_refused(file: impl AsRef<[u8]>, number: u8, line: usize) {
         "of \"{}\"",
         file.escape_ascii()
     );
+    let sized = size(file).map_err(|refused| (refused.number(), refused.line()));
+    assert_eq!(sized, Err((number, line)), "of \"{}\"", file.escape_ascii());
 }
 
 #[test]
@@ -64,6 +73,8 @@ fn rules_512_and_513() {
 #[test]
 fn body_literals_16_and_17() {
     assert_loads(&file_with_body(16), 1, 1);
+    assert_body_literals(&file_with_body(16), 16);
+    assert_body_literals(&file_with_body(0), 0);
     assert_refused(file_with_body(17), 4, 2);
 }
 
@@ -71,6 +82,7 @@ fn body_literals_16_and_17() {
 fn body_literals_in_all_2048_and_2049() {
     assert_loads(&file_with_2048_body_literals(""), 1, 128);
     assert_loads(&file_with_2048_body_literals("rule,a\n"), 1, 129);
+    assert_body_literals(&file_with_2048_body_literals("rule,a\n"), 2_048);
     assert_refused(file_with_2048_body_literals("rule,a,a\n"), 8, 130);
 }
 
@@ -118,6 +130,13 @@ fn the_longest_book_loads() {
     let book = desk.book().expect("a book is loaded");
     assert_eq!((book.names.len(), book.rules.len()), (128, 512));
     assert_eq!(book.body_literals(), 2_048);
+    let size = size(file.as_bytes()).expect("the file loads");
+    let shares = [
+        size.names_share(),
+        size.rules_share(),
+        size.body_literals_share(),
+    ];
+    assert!(shares.iter().all(|share| share.percent() == 100), "{size}");
 }
 
 #[test]
@@ -160,6 +179,7 @@ fn number_3_is_given_for_no_last_newline() {
 #[test]
 fn a_file_of_no_bytes_loads_and_one_of_one_byte_does_not() {
     assert_loads("", 0, 0);
+    assert_body_literals("", 0);
     for byte in 0..=255u8 {
         let (number, line) = match byte {
             10 => (4, 1),

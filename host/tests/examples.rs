@@ -1,6 +1,6 @@
 //! The example books have the listings that stand beside them, and so do the books of the guide.
 
-use mezhkura::second::{program_output, Desk};
+use mezhkura::second::{program_output, size, Desk};
 use std::fs;
 use std::path::{Path, PathBuf};
 
@@ -73,10 +73,17 @@ fn listing_with_facts(book: &str, facts: &str) -> String {
     String::from_utf8(buffer[..length].to_vec()).expect("a listing is ASCII")
 }
 
+/// What sizing says of a file that isn't refused.
+fn sized(file: &[u8]) -> String {
+    let size = size(file).expect("the file isn't refused");
+    format!("{size}\n")
+}
+
 #[test]
-fn books_of_the_guide_have_their_listings() {
+fn books_of_the_guide_have_their_listings_and_sizes() {
     let page = fs::read_to_string(repository().join("docs/BOOKS.md")).expect("the guide");
-    let (mut book, mut facts, mut listings) = (String::new(), String::new(), 0);
+    let (mut book, mut facts) = (String::new(), String::new());
+    let (mut listings, mut sizes) = (0, 0);
     for block in blocks(&page) {
         match block.kind.as_str() {
             "book" => book = block.text,
@@ -94,10 +101,22 @@ fn books_of_the_guide_have_their_listings() {
                 facts.clear();
                 listings += 1;
             }
-            other => panic!("BOOKS.md, line {}: a block `{other}`", block.line),
+            "size" => {
+                assert_eq!(sized(book.as_bytes()), block.text, "line {}", block.line);
+                sizes += 1;
+            }
+            other => {
+                let example = other.strip_prefix("size of ").unwrap_or_else(|| {
+                    panic!("BOOKS.md, line {}: a block `{other}`", block.line);
+                });
+                let file = fs::read(repository().join(example)).expect("a book of examples");
+                assert_eq!(sized(&file), block.text, "line {}", block.line);
+                sizes += 1;
+            }
         }
     }
     assert!(listings >= 18, "{listings} listings");
+    assert!(sizes >= 3, "{sizes} sizes");
 }
 
 /// The guide has an example for each number that a short file can meet.

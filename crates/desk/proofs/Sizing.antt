@@ -3,7 +3,6 @@
 use mathlib.Core.Path.{_≡_, refl, sym, ap, _∙_}
 use mathlib.Core.List.{List}
 use Prim.Native.Nat.{ℕ}
-use Rattle.book.specs.declared.Book.{Book}
 use Rattle.reader.specs.File.{Outcome, accepted, refused, readFile}
 use Rattle.reader.specs.Sizing.{sizeOf, loadedSize}
 use Rattle.reader.specs.declared.Answer.{Answer}

@@ -1,13 +1,13 @@
 -- The answer to a line or a file by its case, and what a line says where it is taken by its first word: a fault leaves the rules' slices out of account, and
 -- a line that adds no rule leaves in them what they hold.
 use mathlib.Core.Path.{_≡_, refl, sym, ap, _∙_, subst}
-use mathlib.Core.List.{List, _∷_}
+use mathlib.Core.List.{List, [], _∷_}
 use Prim.Native.Nat.{ℕ}
 use Rattle.scan.specs.Text.{wordOf}
 use Rattle.scan.specs.declared.Word.{Word}
 use Rattle.scan.specs.declared.Word.the-variants.{Name, End}
-use Rattle.reader.specs.File.{Content, lineFault, extended, withLine, Outcome, refused}
-use Rattle.reader.specs.Steps.{Holds, Step, lineStep, wordStep, Answered, LineRead, FineFile, FileAnswered, FileRead}
+use Rattle.reader.specs.File.{Content, nothingYet, lineFault, extended, withLine, Outcome, accepted, refused}
+use Rattle.reader.specs.Steps.{noCounts, Holds, Step, lineStep, wordStep, Answered, LineRead, FineFile, FileAnswered, FileRead}
 use Rattle.reader.specs.declared.Counts.{Counts}
 use Rattle.reader.specs.declared.LineAnswer.{LineAnswer}
 use Rattle.reader.specs.declared.LineAnswer.the-variants.{Fine, Fault}
@@ -45,6 +45,11 @@ module _ {s : Step} {r : LineAnswer} {text lengths heads starts entries heads′
 
   pub was-fault : {k : ℕ} → r ≡ Fault k → (s .fault ≡ k) × (k ≡ 0 → ⊥)
   was-fault e = subst (λ (x : LineAnswer). Answered s x text lengths) e (read .answer)
+
+-- a file that says nothing leaves the tables as they are
+pub nothing-read : {o : Outcome} {t : Counts} {text lengths heads starts entries : List ℕ} → t ≡ noCounts → o ≡ accepted [] []
+    → Holds nothingYet noCounts text lengths → FileRead o (whole.Fine t) text lengths heads starts entries heads starts entries
+nothing-read e q h = record { answer = record { content = nothingYet; outcome = q; held = rw e h; stored = λ s. s } }
 
 module _ {o : Outcome} {r : FileAnswer} {text lengths heads starts entries heads′ starts′ entries′ : List ℕ}
     (read : FileRead o r text lengths heads starts entries heads′ starts′ entries′) where

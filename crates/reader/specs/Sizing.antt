@@ -1,7 +1,5 @@
 -- What sizing answers (document 02, A.1): how many names, rules and body literals a file fills, or its refusal.
-use mathlib.Core.List.{List}
 use lib.ListN.{length}
-use Rattle.wfsx.specs.Program.{Rule}
 use Rattle.book.specs.Book.{namesOf, rulesOf}
 use Rattle.book.specs.declared.Book.{Book}
 use Rattle.reader.specs.File.{Outcome, accepted, refused, bodyLiterals}

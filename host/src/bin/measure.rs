@@ -2,7 +2,7 @@
 //! measure`. It prints the tables of docs/MEASUREMENTS.md.
 
 use mezhkura::answer::{Question, Tree};
-use mezhkura::engine::Desk;
+use mezhkura::engine::{self, Desk};
 use mezhkura::gen::{self, Random};
 use mezhkura::second;
 use std::env;
@@ -18,6 +18,7 @@ fn main() -> ExitCode {
     match words[..] {
         [] => {
             print_calls();
+            print_sizes();
             print_searches();
             print_stack();
         }
@@ -180,6 +181,32 @@ fn print_calls() {
     }
 }
 
+/// Sizing beside the load of the same file, in turns. A file without its last line, which is `end`, is
+/// refused by 9 after all lines are read: there neither works out a model or keeps a book.
+fn print_sizes() {
+    println!();
+    println!("| file | load, µs | size, µs | size / load |");
+    println!("|---|---|---|---|");
+    for Sample { label, file } in samples() {
+        print_size(label, &file);
+        let without_end = file.strip_suffix(b"end\n").expect("a book ends so");
+        print_size(&format!("{label}; without `end`"), without_end);
+    }
+}
+
+fn print_size(label: &str, file: &[u8]) {
+    let mut desk = Desk::fresh();
+    let (load, size) = times_of(
+        || desk.load(black_box(file)),
+        || engine::size(black_box(file)),
+    );
+    let (load, size) = (micros(load), micros(size));
+    println!(
+        "| {label} | {load:.2} | {size:.2} | {} |",
+        ratio(size, load)
+    );
+}
+
 /// The rows of the calls that change nothing.
 fn print_readings(label: &str, engine: &Desk, other: &second::Desk) {
     let model = times_of(|| engine.model(), || other.model());
@@ -337,6 +364,7 @@ fn call_on(call: &str, stack: usize) {
     let mut buffer = vec![0; 8192];
     let work = || match call {
         "load" => desk.load(&file),
+        "size" => engine::size(&file).map(drop),
         "put-in" => desk.put_in(FACT),
         "model" => desk.model().map(drop),
         "listing" => desk.listing(&mut buffer).map(drop),
@@ -387,6 +415,7 @@ fn print_stack() {
     println!("|---|---|");
     for (label, call) in [
         ("load of the full random book", "load"),
+        ("size of the full random book", "size"),
         ("put in on the full random book", "put-in"),
         ("model of the full random book", "model"),
         ("listing of the full random book", "listing"),

@@ -1,10 +1,10 @@
 //! A marking book (document 01, "The marking file").
 
+use crate::answer::BookSize;
+
+pub use crate::answer::{MOST_BODY_LITERALS, MOST_NAMES, MOST_RULES};
+
 pub const MOST_BYTES: usize = 60_000;
-pub const MOST_NAMES: usize = 128;
-pub const MOST_RULES: usize = 512;
-/// Body literals of all rules together.
-pub const MOST_BODY_LITERALS: usize = 2_048;
 /// Body literals of one rule.
 pub const MOST_IN_A_BODY: usize = 16;
 /// Bytes of a name.
@@ -46,6 +46,15 @@ impl Book {
 
     pub fn body_literals(&self) -> usize {
         self.rules.iter().map(|rule| rule.body.len()).sum()
+    }
+
+    /// How much of the tables it fills (document 02, A.1).
+    pub fn size(&self) -> BookSize {
+        BookSize {
+            names: self.names.len(),
+            rules: self.rules.len(),
+            body_literals: self.body_literals(),
+        }
     }
 
     /// The number of a declared name.

@@ -17,5 +17,5 @@ pub use book::{
 pub use desk::Desk;
 pub use listing::{listing, program_output};
 pub use model::{contradictory_name, gamma, verdict, Halves, Program};
-pub use reader::read;
+pub use reader::{read, size};
 pub use trees::{search, Walk};

@@ -1,9 +1,9 @@
 //! From the bytes of a file to a book (document 01, "The marking file" and "When a call is turned
-//! down by its input"; document 02, A.4).
+//! down by its input"; document 02, A.1 and A.4).
 
 use super::book::{Book, Entry, Rule};
 use super::book::{MOST_BODY_LITERALS, MOST_BYTES, MOST_LETTERS, MOST_NAMES, MOST_RULES};
-use crate::answer::{Fault, Refused};
+use crate::answer::{BookSize, Fault, Refused};
 
 /// The book of a file, or the number and line of its first fault. A file of no bytes has a book of no
 /// names and no rules.
@@ -27,6 +27,11 @@ pub fn read(file: &[u8]) -> Result<Book, Refused> {
         });
     }
     Ok(reading.book)
+}
+
+/// How much of the tables a file fills: the figures of the book that a load of it would leave.
+pub fn size(file: &[u8]) -> Result<BookSize, Refused> {
+    read(file).map(|book| book.size())
 }
 
 /// Numbers 1 to 3, in this order.

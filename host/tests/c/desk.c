@@ -1,5 +1,5 @@
 /* A desk in C: loads a book, puts in a fact, asks for verdict, search and model, and prints the listing; then
- * loads a file of no bytes and prints its listing. */
+ * loads a file of no bytes and prints its listing. Sizes the book, the file of no bytes and one that is refused. */
 #include "mezhkura.h"
 
 #include <stdio.h>
@@ -12,12 +12,19 @@ _Static_assert(sizeof(struct mezhkura_model) == 64, "model");
 _Static_assert(sizeof(mezhkura_shelf) == 8352, "shelf");
 _Static_assert(sizeof(mezhkura_lesson) == 96, "lesson");
 _Static_assert(sizeof(mezhkura_desk) == 8448, "desk");
+_Static_assert(sizeof(mezhkura_size_reply) == 40, "reply to sizing");
 _Static_assert(sizeof(mezhkura_load_reply) == 8464, "reply to a load");
 _Static_assert(sizeof(mezhkura_change_reply) == 8456, "reply to a change");
 _Static_assert(sizeof(mezhkura_verdict_reply) == 2, "reply to a verdict");
 _Static_assert(sizeof(mezhkura_search_reply) == 2, "reply to a search");
 _Static_assert(sizeof(mezhkura_model_reply) == 72, "reply to the model call");
 _Static_assert(sizeof(mezhkura_listing_reply) == 16, "reply to a listing");
+
+static void print_size(const char *file, size_t length)
+{
+    mezhkura_size_reply size = mezhkura_size((const uint8_t *)file, length);
+    printf("%d %zu %zu %zu %zu\n", size.number, size.line, size.names, size.rules, size.body_literals);
+}
 
 int main(void)
 {
@@ -50,5 +57,9 @@ int main(void)
     listing = mezhkura_listing(empty.desk, buffer, sizeof buffer);
     printf("%d %d\n", empty.number, listing.number);
     fwrite(buffer, 1, listing.length, stdout);
+    print_size(file, strlen(file));
+    print_size(file, 0);
+    /* Without its last line the book has no `end`. */
+    print_size(file, strlen(file) - 4);
     return 0;
 }

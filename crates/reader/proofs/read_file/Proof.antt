@@ -9,7 +9,7 @@ use lib.ListN.{length, take}
 use borrow.Author.Tests.{not-true, not-false}
 use Rattle.scan.specs.Text.{newline, split, isText, allBytes}
 use Rattle.reader.specs.File.{nothingYet, readLines}
-use Rattle.reader.proofs.Answers.{file-as}
+use Rattle.reader.proofs.Answers.{nothing-read, file-as}
 use Rattle.reader.proofs.NoBytes.{no-bytes}
 use Rattle.reader.proofs.Whole.{file-long, file-bytes, file-unended, file-lines}
 use Rattle.reader.proofs.read_file.Statement.{statement}
@@ -45,15 +45,7 @@ none-yet-requires c κs = search needs
 returns-3 : tie.Need-returns-3
 returns-3 c =
     let tested = c .before .before .before in
-    rw (c .none-yet .ensures)
-    (record {
-      answer = record {
-        content = nothingYet;
-        outcome = no-bytes (file-of tested) (c .before .if3 .taken);
-        held = at-start (tested .before .before) .pre;
-        stored = λ s. s;
-      };
-    })
+    nothing-read (c .none-yet .ensures) (no-bytes (file-of tested) (c .before .if3 .taken)) (at-start (tested .before .before) .pre)
 
 sub-if4 : tie.Need-sub-if4
 sub-if4 c = search needs

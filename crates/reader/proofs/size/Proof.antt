@@ -1,16 +1,12 @@
 -- `size`: the counts of a file that was read over empty slices are its figures.
 use borrow.Author.Needs.{needs}
-use mathlib.Core.Path.{_≡_, sym, ap, _∙_}
+use mathlib.Core.Path.{sym, ap, _∙_}
 use Rattle.reader.specs.Sizing.{sizeOf}
 use Rattle.reader.proofs.Answers.{file-fine, file-fault}
 use Rattle.reader.proofs.Held.{nothing-held}
 use Rattle.reader.proofs.Sizing.{counted-size, refused-size}
 use Rattle.reader.proofs.size.Statement.{statement}
 use Rattle.reader.proofs.size.Tie as tie
-
--- the file read
-abbrev at-read : tie.After-t20 → tie.After-read-file
-at-read c = c .before .before .before .before .before
 
 slice-aggregate-read-file : tie.Need-slice-aggregate-read-file
 slice-aggregate-read-file c = search needs
@@ -38,13 +34,13 @@ enum-known-number c = search needs
 
 returns : tie.Need-returns
 returns c =
-    let read = at-read (c .before .before .before) in
+    let read = c .before .before .before .before .before .before .before .before in
     let fine = file-fine (read .read-file .ensures) (c .before .t .given .1) in
     counted-size (fine .held) ∙ ap sizeOf (sym (fine .outcome))
 
 returns-2 : tie.Need-returns-2
 returns-2 c =
-    let read = at-read (c .before .before .before) in
+    let read = c .before .before .before .before .before .before .before .before in
     sym (ap sizeOf (file-fault (read .read-file .ensures) (c .before .number .given .1)) ∙ refused-size _ _)
 
 pub size-spec : {M : Type 1} → statement M
