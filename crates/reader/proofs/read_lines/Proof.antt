@@ -67,6 +67,20 @@ last c {x} e =
     sym (read .same) ∙ lines-end d (was .number) (bytes-of (c .before)) (was .at) (c .loop-test .left)
     ∙ ap (λ (z : Bool). cond z (accepted (d .names) (d .rules)) (refused 9 (was .number))) (sym (read .held .counted .ended-is) ∙ e)
 
+-- the slices that a line was lent have the lengths that they came with
+lengths-kept : (c : tie.After-slice-known10 Inv-loop μ-loop)
+    → let now = at-answer c .judge .last .1 in let was = at-start (at-loop (at-end (at-answer c))) .args in
+    (length (now .0) ≡ length (was .text .now)) × (length (now .1 .0) ≡ length (was .lengths .now)) × (length (now .1 .1 .0) ≡ length (was .heads .now))
+    × (length (now .1 .1 .1 .0) ≡ length (was .starts .now)) × (length (now .1 .1 .1 .1 .0) ≡ length (was .entries .now))
+lengths-kept c =
+    let inv = at-loop (at-end (at-answer c)) .loop .inv in (
+      c .before .before .before .before .before .before .before .before .before .text .given ∙ inv .3,
+      c .before .before .before .before .before .before .before .lengths .given ∙ inv .4,
+      c .before .before .before .before .before .heads .given ∙ inv .5,
+      c .before .before .before .starts .given ∙ inv .6,
+      c .before .entries .given ∙ inv .7,
+    )
+
 -- ---- the needs
 
 none-yet-requires : tie.Need-none-yet-requires Inv-loop μ-loop
@@ -99,19 +113,19 @@ enum-known-k : tie.Need-enum-known-k Inv-loop μ-loop
 enum-known-k c = search needs
 
 same-length : tie.Need-same-length Inv-loop μ-loop
-same-length c = search needs
+same-length c = lengths-kept (c .before .before .before) .0
 
 same-length-2 : tie.Need-same-length-2 Inv-loop μ-loop
-same-length-2 c = search needs
+same-length-2 c = lengths-kept (c .before .before .before) .1
 
 same-length-3 : tie.Need-same-length-3 Inv-loop μ-loop
-same-length-3 c = search needs
+same-length-3 c = lengths-kept (c .before .before .before) .2
 
 same-length-4 : tie.Need-same-length-4 Inv-loop μ-loop
-same-length-4 c = search needs
+same-length-4 c = lengths-kept (c .before .before .before) .3
 
 same-length-5 : tie.Need-same-length-5 Inv-loop μ-loop
-same-length-5 c = search needs
+same-length-5 c = lengths-kept (c .before .before .before) .4
 
 returns : tie.Need-returns Inv-loop μ-loop
 returns c =
@@ -154,6 +168,7 @@ loop-again c =
     let within = inside end in
     let up = end .end-of .ensures .1 in
     let line = judged .judge .ensures (read .content) (read .held) in
+    let kept = lengths-kept (c .before .before .before) in
     let told = was-fine line (c .before .u .given .1) in (
       omega arith,
       omega arith,
@@ -163,45 +178,45 @@ loop-again c =
         stored = λ none. line .stored (told .0) (read .stored none);
         same = sym (lines-go (read .content) (was .number) (bytes-of (at-loop end)) (was .at) (end .end-of .result) (end .before .loop-test .taken) (end .end-of .ensures .0) (told .0)) ∙ read .same;
       },
-      search needs,
-      search needs,
-      search needs,
-      search needs,
-      search needs,
+      kept .0,
+      kept .1,
+      kept .2,
+      kept .3,
+      kept .4,
     )
 
 same-length-6 : tie.Need-same-length-6 Inv-loop μ-loop
-same-length-6 c = search needs
+same-length-6 c = c .before .before .before .loop .inv .3
 
 same-length-7 : tie.Need-same-length-7 Inv-loop μ-loop
-same-length-7 c = search needs
+same-length-7 c = c .before .before .before .loop .inv .4
 
 same-length-8 : tie.Need-same-length-8 Inv-loop μ-loop
-same-length-8 c = search needs
+same-length-8 c = c .before .before .before .loop .inv .5
 
 same-length-9 : tie.Need-same-length-9 Inv-loop μ-loop
-same-length-9 c = search needs
+same-length-9 c = c .before .before .before .loop .inv .6
 
 same-length-10 : tie.Need-same-length-10 Inv-loop μ-loop
-same-length-10 c = search needs
+same-length-10 c = c .before .before .before .loop .inv .7
 
 returns-2 : tie.Need-returns-2 Inv-loop μ-loop
 returns-2 c = record { answer = last (c .before .before) (not-true _ (c .if1 .taken)) }
 
 same-length-11 : tie.Need-same-length-11 Inv-loop μ-loop
-same-length-11 c = search needs
+same-length-11 c = c .before .before .before .loop .inv .3
 
 same-length-12 : tie.Need-same-length-12 Inv-loop μ-loop
-same-length-12 c = search needs
+same-length-12 c = c .before .before .before .loop .inv .4
 
 same-length-13 : tie.Need-same-length-13 Inv-loop μ-loop
-same-length-13 c = search needs
+same-length-13 c = c .before .before .before .loop .inv .5
 
 same-length-14 : tie.Need-same-length-14 Inv-loop μ-loop
-same-length-14 c = search needs
+same-length-14 c = c .before .before .before .loop .inv .6
 
 same-length-15 : tie.Need-same-length-15 Inv-loop μ-loop
-same-length-15 c = search needs
+same-length-15 c = c .before .before .before .loop .inv .7
 
 returns-3 : tie.Need-returns-3 Inv-loop μ-loop
 returns-3 c =
