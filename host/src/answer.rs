@@ -67,7 +67,9 @@ pub const MOST_BODY_LITERALS: usize = 2_048;
 /// of it would leave.
 #[derive(Clone, Copy, Debug, PartialEq, Eq)]
 pub struct BookSize {
+    /// Declared names.
     pub names: usize,
+    /// Rules.
     pub rules: usize,
     /// Body literals of all rules together.
     pub body_literals: usize,
@@ -114,6 +116,7 @@ impl fmt::Display for BookSize {
 /// How much of a table is filled.
 #[derive(Clone, Copy, Debug, PartialEq, Eq)]
 pub struct Share {
+    /// How much of it is filled.
     pub filled: usize,
     /// How much the table has room for.
     pub room: usize,

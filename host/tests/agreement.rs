@@ -203,7 +203,7 @@ impl Wrong {
 enum How {
     NotAtAll,
     HeadsAreSized,
-    SizesNoRefusedFile,
+    SizesRefusedFiles,
     PutInStoresNothing,
     SearchSaysNo,
     LongSearchSaysNo,
@@ -225,8 +225,8 @@ impl Calls for Wrong {
                 body_literals: size.body_literals + size.rules,
                 ..size
             }),
-            // What the lines before the refused one fill.
-            How::SizesNoRefusedFile => sized.or_else(|refused| {
+            // By what the lines before the fault fill.
+            How::SizesRefusedFiles => sized.or_else(|refused| {
                 let lines = gen::lines_of(file);
                 let before = lines[..refused.line().saturating_sub(1).min(lines.len())].concat();
                 size(&[&before[..], b"end\n"].concat())
@@ -349,7 +349,7 @@ fn a_desk_that_agrees_is_found_to_agree() {
 fn wrong_desks_are_found_and_explained_in_few_calls() {
     for how in [
         How::HeadsAreSized,
-        How::SizesNoRefusedFile,
+        How::SizesRefusedFiles,
         How::PutInStoresNothing,
         How::SearchSaysNo,
         How::LongSearchSaysNo,

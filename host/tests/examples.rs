@@ -1,4 +1,5 @@
-//! The example books have the listings that stand beside them, and so do the books of the guide.
+//! The example books have the listings that stand beside them, and the books of the guide the listings and
+//! figures below them.
 
 use mezhkura::second::{program_output, size, Desk};
 use std::fs;
@@ -73,10 +74,13 @@ fn listing_with_facts(book: &str, facts: &str) -> String {
     String::from_utf8(buffer[..length].to_vec()).expect("a listing is ASCII")
 }
 
-/// What sizing says of a file that isn't refused.
-fn sized(file: &[u8]) -> String {
-    let size = size(file).expect("the file isn't refused");
-    format!("{size}\n")
+/// The file that a block with figures is about: the book above it, or one of the examples.
+fn sized_file(kind: &str, book: &str) -> Option<Vec<u8>> {
+    if kind == "size" {
+        return Some(book.as_bytes().to_vec());
+    }
+    let example = kind.strip_prefix("size of ")?;
+    Some(fs::read(repository().join(example)).expect("a book of examples"))
 }
 
 #[test]
@@ -101,16 +105,13 @@ fn books_of_the_guide_have_their_listings_and_sizes() {
                 facts.clear();
                 listings += 1;
             }
-            "size" => {
-                assert_eq!(sized(book.as_bytes()), block.text, "line {}", block.line);
-                sizes += 1;
-            }
-            other => {
-                let example = other.strip_prefix("size of ").unwrap_or_else(|| {
-                    panic!("BOOKS.md, line {}: a block `{other}`", block.line);
+            kind => {
+                let file = sized_file(kind, &book).unwrap_or_else(|| {
+                    panic!("BOOKS.md, line {}: a block `{kind}`", block.line);
                 });
-                let file = fs::read(repository().join(example)).expect("a book of examples");
-                assert_eq!(sized(&file), block.text, "line {}", block.line);
+                let size = size(&file).expect("the file isn't refused");
+                let printed = format!("{size}\n");
+                assert_eq!(printed, block.text, "BOOKS.md, line {}", block.line);
                 sizes += 1;
             }
         }

@@ -1,7 +1,7 @@
 -- A loop over the lines of a file: what has been read is held, and the lines that are left decide. A line without a fault is added to it, and a faulty one gives
 -- the outcome, as the end of the lines does.
-use mathlib.Core.Path.{_≡_, ap, _∙_}
-use mathlib.Core.Bool.{cond}
+use mathlib.Core.Path.{_≡_, refl, sym, ap, _∙_}
+use mathlib.Core.Bool.{Bool, true, false, cond}
 use mathlib.Core.List.{List, []}
 use Prim.Native.Nat.{ℕ, _+_, _-_, _≤_, _<_, zero-le}
 use lib.ListN.{length, take, drop}
@@ -9,8 +9,9 @@ use borrow.Author.Tests.{ne-eqb}
 use Rattle.scan.specs.Text.{newline, split, lenTo, rest, fields}
 use Rattle.scan.proofs.Places.{rest-here, rest-step, rest-none}
 use Rattle.reader.specs.File.{Content, nothingYet, lineFault, withLine, accepted, refused, readLines}
-use Rattle.reader.specs.Steps.{noCounts, Holds, Stored}
+use Rattle.reader.specs.Steps.{noCounts, Holds, Stored, lastAnswer, FileRead}
 use Rattle.reader.specs.declared.Counts.{Counts}
+use Rattle.reader.specs.declared.FileAnswer.the-variants as whole
 
 module _ (d : Content) (number : ℕ) (b : List ℕ) (at : ℕ) where
   module _ (e : ℕ) (h : at ≤ length b) (q : e ≡ at + lenTo newline (drop at b)) where
@@ -37,3 +38,19 @@ pub record ReadTo (b : List ℕ) (t : Counts) (at number : ℕ) (text lengths he
 pub read-none : (b : List ℕ) {text lengths heads starts entries : List ℕ} → Holds nothingYet noCounts text lengths
     → ReadTo b noCounts 0 1 text lengths heads starts entries heads starts entries
 read-none b h = record { content = nothingYet; held = h; stored = λ s. s; same = ap (readLines nothingYet 1) (rest-here newline b 0 zero-le) }
+
+module _ {b : List ℕ} {t : Counts} {at number : ℕ} {text lengths heads starts entries heads′ starts′ entries′ : List ℕ}
+    (read : ReadTo b t at number text lengths heads starts entries heads′ starts′ entries′) (none-left : length b < at) where
+  outcome : (x : Bool) → t .ended ≡ x
+      → readLines nothingYet 1 (split newline b) ≡ cond x (accepted (read .content .names) (read .content .rules)) (refused 9 number)
+  outcome x e =
+      let d = read .content in
+      sym (read .same) ∙ lines-end d number b at none-left ∙ ap (λ (z : Bool). cond z (accepted (d .names) (d .rules)) (refused 9 number)) (sym (read .held .counted .ended-is) ∙ e)
+
+  by-end : (x : Bool) → t .ended ≡ x
+      → FileRead (readLines nothingYet 1 (split newline b)) (cond x (whole.Fine t) (whole.Fault 9 number)) text lengths heads starts entries heads′ starts′ entries′
+  by-end true e = record { answer = record { content = read .content; outcome = outcome true e; held = read .held; stored = read .stored } }
+  by-end false e = record { answer = outcome false e }
+
+  pub read-last : FileRead (readLines nothingYet 1 (split newline b)) (lastAnswer t number) text lengths heads starts entries heads′ starts′ entries′
+  read-last = by-end (t .ended) refl

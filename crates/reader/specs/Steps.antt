@@ -1,7 +1,7 @@
 -- What the reader's own functions tell each other: the counts and the tables of what has been read, and what a line does to them. The contracts of `read`
 -- and `size` cite none of this.
 use mathlib.Core.Path.{_≡_}
-use mathlib.Core.Bool.{Bool, true, false}
+use mathlib.Core.Bool.{Bool, true, false, cond}
 use mathlib.Core.List.{List, [], map}
 use Prim.Native.Nat.{ℕ, _+_, _*_, _≤_}
 use lib.ListN.{length}
@@ -109,6 +109,10 @@ pub record LineRead (s : Step) (r : LineAnswer) (text lengths heads starts entri
   pub stored : s .fault ≡ 0 → Stored (s .old .rules) heads starts entries → Stored (s .new .rules) heads′ starts′ entries′
 
 -- ---- a file
+
+-- where no line is left: what was counted, or 9 where `end` has not come
+abbrev pub lastAnswer : Counts → ℕ → FileAnswer
+lastAnswer t line = cond (t .ended) (whole.Fine t) (whole.Fault 9 line)
 
 -- what an accepted file says, held and counted; slices that held no rules hold its rules
 pub record FineFile (o : Outcome) (t : Counts) (text lengths heads starts entries heads′ starts′ entries′ : List ℕ) : Type 0 where

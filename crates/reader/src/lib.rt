@@ -10,7 +10,7 @@ ghost use Rattle.book.specs.Limits.{maxEntries, maxBody};
 ghost use Rattle.reader.specs.File.{Content, nothingYet, allFields, isLiteral, wrongFields, malformed, accepted, refused, readLines, readFile};
 ghost use Rattle.reader.specs.Loading.{loadedOf};
 ghost use Rattle.reader.specs.Sizing.{sizeOf};
-ghost use Rattle.reader.specs.Steps.{noCounts, Fits, Holds, Stored, tableNames, knownOf, FieldsKnown, lineStep, wordStep, Answered, LineRead, FileRead};
+ghost use Rattle.reader.specs.Steps.{noCounts, Fits, Holds, Stored, tableNames, knownOf, FieldsKnown, lineStep, wordStep, Answered, LineRead, lastAnswer, FileRead};
 use book::Book;
 use book::Found;
 use scan::Form;
@@ -251,6 +251,16 @@ fn none_yet() -> Counts
     }
 }
 
+// The answer where no line is left: `end` has come, or 9 is given to the line where it was expected.
+fn last_answer(t: Counts, line: usize) -> FileAnswer
+    ensures { λ r. ⌜ r ≡ lastAnswer t line ⌝ }
+{
+    if t.ended {
+        return FileAnswer::Fine(t);
+    }
+    FileAnswer::Fault { number: 9, line }
+}
+
 // The lines of b, which is the file without its last byte.
 fn read_lines(
     b: &[u8],
@@ -283,13 +293,7 @@ fn read_lines(
         at = e + 1;
         number += 1;
     }
-    if !t.ended {
-        return FileAnswer::Fault {
-            number: 9,
-            line: number,
-        };
-    }
-    FileAnswer::Fine(t)
+    last_answer(t, number)
 }
 
 // The file, into the tables that are lent for it: a rule that lies past them is judged and counted, and not stored.

@@ -1,16 +1,14 @@
 -- `read_lines`: the lines passed have no fault and what they say is held and stored, so the lines that are left decide.
 use borrow.Author.Needs.{needs}
-use mathlib.Core.Path.{_≡_, sym, ap, _∙_}
-use mathlib.Core.Bool.{Bool, cond}
+use mathlib.Core.Path.{_≡_, sym, _∙_}
 use mathlib.Core.List.{List}
 use Prim.Native.Nat.{ℕ, _+_, _-_, _≤_}
 use native.Mathlib.Omega.{arith}
 use lib.ListN.{length, take, drop}
-use borrow.Author.Tests.{not-true, not-false}
-use Rattle.scan.specs.Text.{newline, split, fields}
-use Rattle.reader.specs.File.{nothingYet, accepted, refused, readLines, withLine}
+use Rattle.scan.specs.Text.{fields}
+use Rattle.reader.specs.File.{withLine}
 use Rattle.reader.proofs.Answers.{was-fine, was-fault}
-use Rattle.reader.proofs.Progress.{lines-go, lines-stop, lines-end, ReadTo, read-none}
+use Rattle.reader.proofs.Progress.{lines-go, lines-stop, ReadTo, read-none, read-last}
 use Rattle.reader.proofs.read_lines.Statement.{statement}
 use Rattle.reader.proofs.read_lines.Tie as tie
 
@@ -55,17 +53,6 @@ line-at c = fields (take (c .end-of .result - at-loop c .loop .at) (drop (at-loo
 
 inside : (c : tie.After-end-of Inv-loop μ-loop) → c .end-of .result ≤ length (bytes-of (at-loop c))
 inside c = c .end-of .ensures .2 (c .before .loop-test .taken)
-
--- the outcome, where no line is left
-last : (c : tie.After-loop Inv-loop μ-loop) {x : Bool} → c .before .loop .t .ended ≡ x
-    → readLines nothingYet 1 (split newline (bytes-of (c .before)))
-    ≡ cond x (accepted (c .before .loop .inv .2 .content .names) (c .before .loop .inv .2 .content .rules)) (refused 9 (c .before .loop .number))
-last c {x} e =
-    let was = c .before .loop in
-    let read = was .inv .2 in
-    let d = read .content in
-    sym (read .same) ∙ lines-end d (was .number) (bytes-of (c .before)) (was .at) (c .loop-test .left)
-    ∙ ap (λ (z : Bool). cond z (accepted (d .names) (d .rules)) (refused 9 (was .number))) (sym (read .held .counted .ended-is) ∙ e)
 
 -- the slices that a line was lent have the lengths that they came with
 lengths-kept : (c : tie.After-slice-known10 Inv-loop μ-loop)
@@ -185,43 +172,26 @@ loop-again c =
       kept .4,
     )
 
+last-answer-requires : tie.Need-last-answer-requires Inv-loop μ-loop
+last-answer-requires c κs = search needs
+
 same-length-6 : tie.Need-same-length-6 Inv-loop μ-loop
-same-length-6 c = c .before .before .before .loop .inv .3
+same-length-6 c = c .before .before .loop .inv .3
 
 same-length-7 : tie.Need-same-length-7 Inv-loop μ-loop
-same-length-7 c = c .before .before .before .loop .inv .4
+same-length-7 c = c .before .before .loop .inv .4
 
 same-length-8 : tie.Need-same-length-8 Inv-loop μ-loop
-same-length-8 c = c .before .before .before .loop .inv .5
+same-length-8 c = c .before .before .loop .inv .5
 
 same-length-9 : tie.Need-same-length-9 Inv-loop μ-loop
-same-length-9 c = c .before .before .before .loop .inv .6
+same-length-9 c = c .before .before .loop .inv .6
 
 same-length-10 : tie.Need-same-length-10 Inv-loop μ-loop
-same-length-10 c = c .before .before .before .loop .inv .7
+same-length-10 c = c .before .before .loop .inv .7
 
 returns-2 : tie.Need-returns-2 Inv-loop μ-loop
-returns-2 c = record { answer = last (c .before .before) (not-true _ (c .if1 .taken)) }
-
-same-length-11 : tie.Need-same-length-11 Inv-loop μ-loop
-same-length-11 c = c .before .before .before .loop .inv .3
-
-same-length-12 : tie.Need-same-length-12 Inv-loop μ-loop
-same-length-12 c = c .before .before .before .loop .inv .4
-
-same-length-13 : tie.Need-same-length-13 Inv-loop μ-loop
-same-length-13 c = c .before .before .before .loop .inv .5
-
-same-length-14 : tie.Need-same-length-14 Inv-loop μ-loop
-same-length-14 c = c .before .before .before .loop .inv .6
-
-same-length-15 : tie.Need-same-length-15 Inv-loop μ-loop
-same-length-15 c = c .before .before .before .loop .inv .7
-
-returns-3 : tie.Need-returns-3 Inv-loop μ-loop
-returns-3 c =
-    let read = c .before .before .before .loop .inv .2 in
-    record { answer = record { content = read .content; outcome = last (c .before .before) (not-false _ (c .if1 .left)); held = read .held; stored = read .stored } }
+returns-2 c = rw (c .last-answer .ensures) (read-last (c .before .before .loop .inv .2) (c .before .loop-test .left))
 
 pub read-lines-spec : {M : Type 1} → statement M
 read-lines-spec =
@@ -248,15 +218,10 @@ read-lines-spec =
     add-number
     loop-less
     loop-again
+    last-answer-requires
     same-length-6
     same-length-7
     same-length-8
     same-length-9
     same-length-10
-    returns-2
-    same-length-11
-    same-length-12
-    same-length-13
-    same-length-14
-    same-length-15
-    returns-3)
+    returns-2)
