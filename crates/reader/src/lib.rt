@@ -410,8 +410,8 @@ pub enum SizeAnswer {
     },
 }
 
-// How much of each table a file fills, with no book stored: it is read as for loading, over slices that have no room for a rule. The names are kept, since 6 and 7
-// look them up.
+// How much of each table a file fills, with no book stored: it is read as for loading, over slices that have no room for a rule. The names are kept,
+// since 6 and 7 look them up.
 pub fn size(file: &[u8]) -> SizeAnswer
     ensures { λ r. ⌜ r ≡ sizeOf (readFile (now (file .entry))) ⌝ }
 {
