@@ -8,6 +8,7 @@ use native.Mathlib.Decide.{decLt}
 use native.Mathlib.Omega.{arith}
 use lib.ListN.{length, getD, drop, length-take, List·getD-eq-default}
 use Rattle.scan.specs.Text.{maxLength}
+use Rattle.scan.specs.declared.Alphabet.{Alphabet}
 use Rattle.book.specs.Limits.{maxNames, maxRules}
 use Rattle.book.specs.Book.{clamp, nameAt, namesIn, namesOf, find, ruleAt, rulesOf}
 use Rattle.book.specs.declared.Book.{Book}
@@ -41,9 +42,9 @@ module _ (text lengths : List ℕ) where
         go (no h) = rw (name-out (omega arith)) (omega arith)
 
   -- a number that the tables give lies below the most names
-  pub found-small : (count : ℕ) (n : List ℕ) (i : ℕ) → find (namesIn text lengths (clamp maxNames count)) n ≡ At i → i < maxNames
-  found-small count n i e =
-      omega (arith, found-below 0 n (namesIn text lengths (clamp maxNames count)) i e, names-count (clamp maxNames count), clamp-most maxNames count)
+  pub found-small : (α : Alphabet) (count : ℕ) (n : List ℕ) (i : ℕ) → find α (namesIn text lengths (clamp maxNames count)) n ≡ At i → i < maxNames
+  found-small α count n i e =
+      omega (arith, found-below α 0 n (namesIn text lengths (clamp maxNames count)) i e, names-count (clamp maxNames count), clamp-most maxNames count)
 
 module _ (b : Book) where
   pub names-counted : length (namesOf b) ≡ clamp maxNames (b .names)

@@ -1,7 +1,6 @@
 -- The meaning of a `Book`, whatever its bits: names and rules, and with the facts put in a program (document 01, "The marking file", "From
 -- rules to a model").
-use mathlib.Core.Path.{_≡_}
-use mathlib.Core.Bool.{Bool, cond}
+use mathlib.Core.Bool.{cond}
 use mathlib.Core.List.{List, [], _∷_, _++_, map}
 use Prim.Native.Nat.{ℕ, zero, suc, _+_, _-_, _*_, _/_, _%_, min}
 use lib.Dec.{eqb}
@@ -9,7 +8,8 @@ use lib.ListN.{length, getD, take, drop, replicate}
 use Rattle.wfsx.specs.Sets.{Set, members}
 use Rattle.wfsx.specs.Program.{Entry, positive, default, Rule, Program, withFacts}
 use Rattle.litset.specs.Words.{capacity}
-use Rattle.scan.specs.Text.{sameBytes, maxLength}
+use Rattle.scan.specs.Text.{sameName, maxLength}
+use Rattle.scan.specs.declared.Alphabet.{Alphabet}
 use Rattle.book.specs.Limits.{maxNames, maxRules, maxEntries}
 use Rattle.book.specs.declared.Book.{Book}
 use Rattle.book.specs.declared.Entry as declared
@@ -39,21 +39,13 @@ namesIn text lengths count = rows (nameAt text lengths) 0 count
 abbrev pub namesOf : Book → List (List ℕ)
 namesOf b = namesIn (b .text) (b .lengths) (clamp maxNames (b .names))
 
--- two names are the same: refusals 6 and 7 go by this, and every look-up by its test
-unfoldable pub SameName : List ℕ → List ℕ → Type 0
-SameName a b = a ≡ b
-
--- `proofs/Lookup.antt` shows that the test decides it
-unfoldable pub sameName : List ℕ → List ℕ → Bool
-sameName a b = sameBytes a b
-
 -- the number of the first of the names, counted from k, that is the same as n
-unfoldable pub findFrom : ℕ → List ℕ → List (List ℕ) → Found
-findFrom k n [] = Nothing
-findFrom k n (m ∷ ms) = cond (sameName m n) (At k) (findFrom (suc k) n ms)
+unfoldable pub findFrom : Alphabet → ℕ → List ℕ → List (List ℕ) → Found
+findFrom α k n [] = Nothing
+findFrom α k n (m ∷ ms) = cond (sameName α m n) (At k) (findFrom α (suc k) n ms)
 
-abbrev pub find : List (List ℕ) → List ℕ → Found
-find names n = findFrom 0 n names
+abbrev pub find : Alphabet → List (List ℕ) → List ℕ → Found
+find α names n = findFrom α 0 n names
 
 -- ---- rules
 

@@ -1,4 +1,4 @@
--- The definitions give what the table says of cases 1 to 11 and of a file of no bytes: both sides of the equation compute to the same table.
+-- The definitions give what the table says of cases 1 to 11, of a file of no bytes and of one with capitals: both sides of the equation compute to the same table.
 use mathlib.Core.Path.{_≡_, refl}
 use mathlib.Core.List.{map}
 use Rattle.wfsx.specs.Sets.{membersFrom}
@@ -6,8 +6,8 @@ use Rattle.wfsx.specs.Program.{compl}
 use Rattle.wfsx.specs.Model.{every, supported, Γ, Γs, I, M, N, verdict}
 use Rattle.wfsx.specs.Trees.{cut, tree, answer}
 use Rattle.litset.specs.Words.{without, clashFrom}
-use Rattle.scan.specs.Text.{allBytes, split, lenTo, isName, sameBytes, wordOf}
-use Rattle.book.specs.Book.{sameName, findFrom}
+use Rattle.scan.specs.Text.{allBytes, split, lenTo, isName, sameBytes, sameName, wordOf}
+use Rattle.book.specs.Book.{findFrom}
 use Rattle.reader.specs.File.{bodyLiterals, allFields, wrongFields, malformed, declaredBefore, usesUndeclared, beyondTable, faultOf, lineFault, literalNumber, entryFrom, extended, withLine, readLines, readFile}
 use Rattle.lister.specs.Listing.{lastDigits, digits, line, nameLines, listingBy, listingOf}
 use Rattle.lesson.specs.State.{inForce, programIn, inBook, listingIn, ifLoaded, inOrder, changeSays}

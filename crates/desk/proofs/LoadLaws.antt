@@ -6,6 +6,7 @@ use mathlib.Core.Logic.{_↔_}
 use Prim.Native.Nat.{ℕ}
 use native.Mathlib.Omega.{arith}
 use Rattle.wfsx.specs.Program.{Rule}
+use Rattle.scan.specs.declared.Alphabet.the-variants.{EitherCase}
 use Rattle.book.specs.Book.{rulesOf, bookOf, noBook}
 use Rattle.book.specs.declared.Book.{Book}
 use Rattle.book.proofs.Back.{book-rules}
@@ -51,7 +52,7 @@ fresh-good k h =
       stands = rw (h .shelf-is) (begin-empty (record { loaded = 0; book = noBook }) (k .lesson) (h .lesson-begins) refl no-rules);
     }
 
-module _ (file : List ℕ) (names : List (List ℕ)) (rules : List Rule) (e : readFile file ≡ accepted names rules) (k : Desk) (h : Begun 1 (bookOf names rules) k) where
+module _ (file : List ℕ) (names : List (List ℕ)) (rules : List Rule) (e : readFile EitherCase file ≡ accepted names rules) (k : Desk) (h : Begun 1 (bookOf names rules) k) where
   accepted-means : _≡_ {A = State} (stateOf k) (record { book = loaded-with names rules; own = emptied })
   accepted-means =
       begun-means 1 (bookOf names rules) k h
@@ -68,11 +69,11 @@ module _ (file : List ℕ) (names : List (List ℕ)) (rules : List Rule) (e : re
 -- ---- a load, by its outcome
 
 module _ (k : Desk) (file : List ℕ) (r : LoadReply) where
-  load-means : (o : Outcome) → readFile file ≡ o → LoadsAs k o r → stateOf (r .desk) ≡ afterLoad (stateOf k) o
+  load-means : (o : Outcome) → readFile EitherCase file ≡ o → LoadsAs k o r → stateOf (r .desk) ≡ afterLoad (stateOf k) o
   load-means (accepted names rules) e h = accepted-means file names rules e (r .desk) (h .1)
   load-means (reader.refused number line) e h = ap stateOf (h .1)
 
-  load-good : Good k → (o : Outcome) → readFile file ≡ o → LoadsAs k o r → Good (r .desk)
+  load-good : Good k → (o : Outcome) → readFile EitherCase file ≡ o → LoadsAs k o r → Good (r .desk)
   load-good g (accepted names rules) e h = accepted-good file names rules e (r .desk) (h .1)
   load-good g (reader.refused number line) e h = rw (h .1) g
 
@@ -117,14 +118,14 @@ load-exists k (reader.refused number line) = (record { answer = Refused number l
 pub load-laws : (file : List ℕ) → DeskLaws (specOf (load file))
 load-laws file =
     record {
-      means = λ k r g h. load-means k file r (readFile file) refl h;
-      good = λ k r g h. load-good k file r g (readFile file) refl h;
+      means = λ k r g h. load-means k file r (readFile EitherCase file) refl h;
+      good = λ k r g h. load-good k file r g (readFile EitherCase file) refl h;
       exactly = λ k r g h number line.
-          let a = load-by k file r (readFile file) h number line in
+          let a = load-by k file r (readFile EitherCase file) h number line in
           let b = refused-exactly file number line in
           (λ q. b .0 (a .0 q), λ q. a .1 (b .1 q));
-      kept = λ k r h number line e. (load-kept k file r (readFile file) h number line e, record {});
-      replies = λ k g. load-exists k (readFile file);
+      kept = λ k r h number line e. (load-kept k file r (readFile EitherCase file) h number line e, record {});
+      replies = λ k g. load-exists k (readFile EitherCase file);
     }
 
 -- ---- the code's load, by what the reader answered

@@ -2,6 +2,7 @@
 use mathlib.Core.Path.{_≡_}
 use Prim.Native.Nat.{ℕ}
 use mathlib.Core.List.{List}
+use Rattle.scan.specs.declared.Alphabet.the-variants.{EitherCase}
 use Rattle.book.specs.Book.{bookOf, noBook}
 use Rattle.book.specs.declared.Book.{Book}
 use Rattle.reader.specs.File.{Outcome, accepted, refused, readFile}
@@ -29,4 +30,4 @@ LoadsAs k (accepted names rules) r = (r .answer ≡ Accepted) × Begun 1 (bookOf
 LoadsAs k (refused number line) r = (r .answer ≡ Refused number line) × (r .desk ≡ k)
 
 abbrev pub Loads : Desk → List ℕ → LoadReply → Type 0
-Loads k file r = LoadsAs k (readFile file) r
+Loads k file r = LoadsAs k (readFile EitherCase file) r

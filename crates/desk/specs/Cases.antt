@@ -1,5 +1,5 @@
--- Document 01, "Short books to hold against it": cases 1 to 11 as one table of data, and the file of no bytes (document 02, A.4) among them. Each has the
--- calls, and what the listing, the verdicts and the searches give after them. Bytes stand as numbers, with their text above them, lines parted by ` / `.
+-- Document 01, "Short books to hold against it": cases 1 to 11 as one table of data, and among them a file of no bytes and one with capitals (document
+-- 02, A.4 and A.2). Each has the calls, and what the listing, the verdicts and the searches give after them. Bytes stand as numbers, with their text above them, lines parted by ` / `.
 use mathlib.Core.Bool.{Bool, true, false}
 use mathlib.Core.List.{List, [], _∷_, map}
 use Prim.Native.Nat.{ℕ}
@@ -210,6 +210,20 @@ case-11-taken-out =
       answers = asks 0 false T false ∷ asks 0 false TU false ∷ asks 0 true T true ∷ asks 0 true TU true ∷ asks 2 false T true ∷ asks 2 false TU true ∷ asks 2 true T false ∷ asks 2 true TU false ∷ [];
     }
 
+-- name,Brake_Held / name,gear_2 / rule,Gear_2,~BRAKE_HELD / end
+abbrev file-capitals : List ℕ
+file-capitals = 110 ∷ 97 ∷ 109 ∷ 101 ∷ 44 ∷ 66 ∷ 114 ∷ 97 ∷ 107 ∷ 101 ∷ 95 ∷ 72 ∷ 101 ∷ 108 ∷ 100 ∷ 10 ∷ 110 ∷ 97 ∷ 109 ∷ 101 ∷ 44 ∷ 103 ∷ 101 ∷ 97 ∷ 114 ∷ 95 ∷ 50 ∷ 10 ∷ 114 ∷ 117 ∷ 108 ∷ 101 ∷ 44 ∷ 71 ∷ 101 ∷ 97 ∷ 114 ∷ 95 ∷ 50 ∷ 44 ∷ 126 ∷ 66 ∷ 82 ∷ 65 ∷ 75 ∷ 69 ∷ 95 ∷ 72 ∷ 69 ∷ 76 ∷ 68 ∷ 10 ∷ 101 ∷ 110 ∷ 100 ∷ 10 ∷ []
+
+-- capitals: lists model,2,1,0 / 0,Brake_Held,false,false / 1,gear_2,true,false
+abbrev case-capitals : Case
+case-capitals =
+    record {
+      calls = load file-capitals ∷ [];
+      listing = 109 ∷ 111 ∷ 100 ∷ 101 ∷ 108 ∷ 44 ∷ 50 ∷ 44 ∷ 49 ∷ 44 ∷ 48 ∷ 10 ∷ 48 ∷ 44 ∷ 66 ∷ 114 ∷ 97 ∷ 107 ∷ 101 ∷ 95 ∷ 72 ∷ 101 ∷ 108 ∷ 100 ∷ 44 ∷ 102 ∷ 97 ∷ 108 ∷ 115 ∷ 101 ∷ 44 ∷ 102 ∷ 97 ∷ 108 ∷ 115 ∷ 101 ∷ 10 ∷ 49 ∷ 44 ∷ 103 ∷ 101 ∷ 97 ∷ 114 ∷ 95 ∷ 50 ∷ 44 ∷ 116 ∷ 114 ∷ 117 ∷ 101 ∷ 44 ∷ 102 ∷ 97 ∷ 108 ∷ 115 ∷ 101 ∷ 10 ∷ [];
+      verdicts = (0, is-false) ∷ (1, is-false) ∷ (2, is-true) ∷ (3, is-false) ∷ [];
+      answers = asks 0 true T true ∷ asks 2 false T true ∷ asks 2 true TU false ∷ [];
+    }
+
 abbrev pub cases : List Case
 cases =
-    case-1 ∷ case-2 ∷ case-3 ∷ case-4 ∷ case-5 ∷ case-6 ∷ case-7 ∷ case-8 ∷ case-9 ∷ case-10 ∷ case-no-bytes ∷ case-11-put-in ∷ case-11-taken-out ∷ []
+    case-1 ∷ case-2 ∷ case-3 ∷ case-4 ∷ case-5 ∷ case-6 ∷ case-7 ∷ case-8 ∷ case-9 ∷ case-10 ∷ case-no-bytes ∷ case-11-put-in ∷ case-11-taken-out ∷ case-capitals ∷ []

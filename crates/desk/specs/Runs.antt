@@ -12,6 +12,7 @@ use Rattle.wfsx.specs.Model.{M, N, PartialStable, valueIn}
 use Rattle.wfsx.specs.Model as wfsx
 use Rattle.wfsx.specs.Trees.{Tree, T, TU}
 use Rattle.search.specs.Questions.{questionOf}
+use Rattle.scan.specs.declared.Alphabet.the-variants.{EitherCase}
 use Rattle.reader.specs.File.{Outcome, accepted, readFile}
 use Rattle.reader.specs.File as reader
 use Rattle.reader.specs.Conditions.{Row, First, IsRefused}
@@ -86,7 +87,7 @@ specOf (load file) =
       Reply = LoadReply;
       Meets = λ k r. Loads k file r;
       next = λ k r. r .desk;
-      after = λ d. afterLoad d (readFile file);
+      after = λ d. afterLoad d (readFile EitherCase file);
       TurnsDown = λ d number line. IsRefused file number line;
       RefusedBy = λ r number line. r .answer ≡ reading.Refused number line;
       Unwritten = λ r. Unit;

@@ -6,6 +6,7 @@ use Prim.Native.Nat.{ℕ, _≤_}
 use native.Mathlib.Omega.{arith}
 use lib.ListN.{length, take, length-take}
 use lib.Seq.{take-append-seam}
+use Rattle.scan.specs.declared.Alphabet.the-variants.{EitherCase}
 use Rattle.reader.specs.File.{accepted, readFile}
 use Rattle.reader.specs.declared.Answer.the-variants.{Accepted, Refused}
 use Rattle.lister.specs.Listing.{refusalOf}
@@ -40,13 +41,13 @@ length-in (listing.Refused m) n e = absurd (given-refused n m (sym e))
 
 module _ (file : List ℕ) (start : Desk) (f : Fresh start) (q : LoadReply) (h : Loads start file q) {before after : List ℕ} (room : 65536 ≤ length before) (n : ℕ) where
   pub accepted-printed : q .answer ≡ Accepted → (a : ListingAnswer) → Lists (q .desk .shelf) (q .desk .lesson) before a after → n ≡ listedIn a
-      → Counts n after × (take n after ≡ printed (readFile file))
+      → Counts n after × (take n after ≡ printed (readFile EitherCase file))
   unfolding printed
   accepted-printed told a lists count =
-      let was = load-was-accepted start file q (readFile file) h told in
+      let was = load-was-accepted start file q (readFile EitherCase file) h told in
       let cs = load file ∷ [] in
       let here : left cs ≡ afterLoad nothing (accepted (was .0) (was .1)) = ap (afterLoad nothing) (was .2) in
-      let bytes : listingIn (left cs) ≡ printed (readFile file) = ap listingIn here ∙ listing-begun (was .0) (was .1) ∙ ap printed (sym (was .2)) in
+      let bytes : listingIn (left cs) ≡ printed (readFile EitherCase file) = ap listingIn here ∙ listing-begun (was .0) (was .1) ∙ ap printed (sym (was .2)) in
       let some : NoBook (left cs) → ⊥ = λ none. true≢false (sym (ap noneLoaded (sym (ap (λ (d : State). d .book) here) ∙ none))) in
       let run : Run start cs (q .desk) = (q, h, refl) in
       let fits = listing-most cs start (q .desk) f run some in
@@ -54,9 +55,9 @@ module _ (file : List ℕ) (start : Desk) (f : Fresh start) (q : LoadReply) (h :
       rw bytes at (first-bytes (listingIn (left cs)) _ after n (count ∙ length-in a _ (due .0)) (due .1))
 
   pub refused-printed : (number at : ℕ) → q .answer ≡ Refused number at → (w : Written) → Writes (refusalOf number at) before w after → length (refusalOf number at) ≤ 65536
-      → n ≡ writtenIn w → Counts n after × (take n after ≡ printed (readFile file))
+      → n ≡ writtenIn w → Counts n after × (take n after ≡ printed (readFile EitherCase file))
   unfolding printed
   refused-printed number at told w writes small count =
       let answered = length-answered writes (omega arith) in
-      let bytes : refusalOf number at ≡ printed (readFile file) = ap printed (sym (load-was-refused start file q (readFile file) h number at told)) in
+      let bytes : refusalOf number at ≡ printed (readFile EitherCase file) = ap printed (sym (load-was-refused start file q (readFile EitherCase file) h number at told)) in
       rw bytes at (first-bytes (refusalOf number at) _ after n (count ∙ ap writtenIn answered) (was-written writes _ answered .2))

@@ -2,6 +2,7 @@
 ghost use mathlib.Core.Path.{_≡_};
 ghost use Prim.Native.Nat.{_≤_};
 ghost use lib.ListN.{length, take};
+ghost use Rattle.scan.specs.declared.Alphabet.the-variants.{EitherCase};
 ghost use Rattle.reader.specs.File.{readFile};
 ghost use Rattle.io.specs.Counts.{Counts};
 ghost use Rattle.listing.specs.Printed.{printed, listedIn, writtenIn};
@@ -32,7 +33,7 @@ fn written_in(w: Written) -> usize
 fn listed(file: &[u8], out: &mut [u8]) -> usize
     requires { ⌜ 65536 ≤ length (now out) ⌝ }
     ensures { λ r. ⌜ Counts r (now (out .exit)) ⌝ }
-    ensures { λ r. ⌜ take r (now (out .exit)) ≡ printed (readFile (now (file .entry))) ⌝ }
+    ensures { λ r. ⌜ take r (now (out .exit)) ≡ printed (readFile EitherCase (now (file .entry))) ⌝ }
 {
     let loaded = desk::load(desk::fresh(), file);
     let answer = loaded.answer;

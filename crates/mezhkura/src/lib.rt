@@ -1,6 +1,7 @@
 // The calls of a desk for Rust and C, and sizing, which has no desk: structs by value, slices as pointer and length, answers as numbers. Each call answers
 // what the call of `desk`, `lesson` or `reader` answers, in document 01's numbers; 0 says that it was not turned down.
 ghost use mathlib.Core.Path.{_≡_};
+ghost use Rattle.scan.specs.declared.Alphabet.the-variants.{EitherCase};
 ghost use Rattle.reader.specs.File.{readFile};
 ghost use Rattle.reader.specs.Sizing.{sizeOf};
 ghost use Rattle.search.specs.Questions.{treeOf, questionOf};
@@ -73,7 +74,7 @@ pub struct ListingReply {
 
 #[no_mangle]
 pub extern "C" fn mezhkura_size(file: &[u8]) -> SizeReply
-    ensures { λ r. ⌜ r ≡ sizeNumbers (sizeOf (readFile (now (file .entry)))) ⌝ }
+    ensures { λ r. ⌜ r ≡ sizeNumbers (sizeOf (readFile EitherCase (now (file .entry)))) ⌝ }
 {
     match reader::size(file) {
         SizeAnswer::Accepted {

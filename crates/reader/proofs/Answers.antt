@@ -18,46 +18,46 @@ pub by-word : (d : Content) (w : Word) {first : List ℕ} {fs others : List (Lis
 unfolding lineFault withLine
 by-word d w {others = others} part word = ap (lineStep d) part ∙ ap (λ (x : Word). wordStep d x others) word
 
-module _ (s : Step) {text lengths heads starts entries : List ℕ} where
+module _ (s : Step) {keys text lengths heads starts entries : List ℕ} where
   pub line-fault : {k : ℕ} {heads′ starts′ entries′ : List ℕ} → s .fault ≡ k → (k ≡ 0 → ⊥)
-      → LineRead s (Fault k) text lengths heads starts entries heads′ starts′ entries′
+      → LineRead s (Fault k) keys text lengths heads starts entries heads′ starts′ entries′
   line-fault e n = record { answer = (e, n); stored = λ z. absurd (n (sym e ∙ z)) }
 
-  rules-kept : {r : LineAnswer} → Answered s r text lengths → s .new .rules ≡ s .old .rules → LineRead s r text lengths heads starts entries heads starts entries
+  rules-kept : {r : LineAnswer} → Answered s r keys text lengths → s .new .rules ≡ s .old .rules → LineRead s r keys text lengths heads starts entries heads starts entries
   rules-kept a e = record { answer = a; stored = λ z held. rw e held }
 
-module _ (d : Content) (others : List (List ℕ)) {r : LineAnswer} {text lengths heads starts entries : List ℕ} where
-  pub name-read : Answered (wordStep d Name others) r text lengths → LineRead (wordStep d Name others) r text lengths heads starts entries heads starts entries
+module _ (d : Content) (others : List (List ℕ)) {r : LineAnswer} {keys text lengths heads starts entries : List ℕ} where
+  pub name-read : Answered (wordStep d Name others) r keys text lengths → LineRead (wordStep d Name others) r keys text lengths heads starts entries heads starts entries
   unfolding extended
   name-read a = rules-kept (wordStep d Name others) a refl
 
-  pub end-read : Answered (wordStep d End others) r text lengths → LineRead (wordStep d End others) r text lengths heads starts entries heads starts entries
+  pub end-read : Answered (wordStep d End others) r keys text lengths → LineRead (wordStep d End others) r keys text lengths heads starts entries heads starts entries
   unfolding extended
   end-read a = rules-kept (wordStep d End others) a refl
 
-module _ {s : Step} {r : LineAnswer} {text lengths heads starts entries heads′ starts′ entries′ : List ℕ}
-    (read : LineRead s r text lengths heads starts entries heads′ starts′ entries′) where
-  pub read-as : {q : Step} → q ≡ s → LineRead q r text lengths heads starts entries heads′ starts′ entries′
-  read-as e = subst (λ (x : Step). LineRead x r text lengths heads starts entries heads′ starts′ entries′) (sym e) read
+module _ {s : Step} {r : LineAnswer} {keys text lengths heads starts entries heads′ starts′ entries′ : List ℕ}
+    (read : LineRead s r keys text lengths heads starts entries heads′ starts′ entries′) where
+  pub read-as : {q : Step} → q ≡ s → LineRead q r keys text lengths heads starts entries heads′ starts′ entries′
+  read-as e = subst (λ (x : Step). LineRead x r keys text lengths heads starts entries heads′ starts′ entries′) (sym e) read
 
-  pub was-fine : {t : Counts} → r ≡ Fine t → (s .fault ≡ 0) × Holds (s .new) t text lengths
-  was-fine e = subst (λ (x : LineAnswer). Answered s x text lengths) e (read .answer)
+  pub was-fine : {t : Counts} → r ≡ Fine t → (s .fault ≡ 0) × Holds (s .new) t keys text lengths
+  was-fine e = subst (λ (x : LineAnswer). Answered s x keys text lengths) e (read .answer)
 
   pub was-fault : {k : ℕ} → r ≡ Fault k → (s .fault ≡ k) × (k ≡ 0 → ⊥)
-  was-fault e = subst (λ (x : LineAnswer). Answered s x text lengths) e (read .answer)
+  was-fault e = subst (λ (x : LineAnswer). Answered s x keys text lengths) e (read .answer)
 
 -- a file that says nothing leaves the tables as they are
-pub nothing-read : {o : Outcome} {t : Counts} {text lengths heads starts entries : List ℕ} → t ≡ noCounts → o ≡ accepted [] []
-    → Holds nothingYet noCounts text lengths → FileRead o (whole.Fine t) text lengths heads starts entries heads starts entries
+pub nothing-read : {o : Outcome} {t : Counts} {keys text lengths heads starts entries : List ℕ} → t ≡ noCounts → o ≡ accepted [] []
+    → Holds nothingYet noCounts keys text lengths → FileRead o (whole.Fine t) keys text lengths heads starts entries heads starts entries
 nothing-read e q h = record { answer = record { content = nothingYet; outcome = q; held = rw e h; stored = λ s. s } }
 
-module _ {o : Outcome} {r : FileAnswer} {text lengths heads starts entries heads′ starts′ entries′ : List ℕ}
-    (read : FileRead o r text lengths heads starts entries heads′ starts′ entries′) where
-  pub file-fine : {t : Counts} → r ≡ whole.Fine t → FineFile o t text lengths heads starts entries heads′ starts′ entries′
-  file-fine e = subst (λ (x : FileAnswer). FileAnswered o x text lengths heads starts entries heads′ starts′ entries′) e (read .answer)
+module _ {o : Outcome} {r : FileAnswer} {keys text lengths heads starts entries heads′ starts′ entries′ : List ℕ}
+    (read : FileRead o r keys text lengths heads starts entries heads′ starts′ entries′) where
+  pub file-fine : {t : Counts} → r ≡ whole.Fine t → FineFile o t keys text lengths heads starts entries heads′ starts′ entries′
+  file-fine e = subst (λ (x : FileAnswer). FileAnswered o x keys text lengths heads starts entries heads′ starts′ entries′) e (read .answer)
 
   pub file-fault : {number line : ℕ} → r ≡ whole.Fault number line → o ≡ refused number line
-  file-fault e = subst (λ (x : FileAnswer). FileAnswered o x text lengths heads starts entries heads′ starts′ entries′) e (read .answer)
+  file-fault e = subst (λ (x : FileAnswer). FileAnswered o x keys text lengths heads starts entries heads′ starts′ entries′) e (read .answer)
 
-  pub file-as : {q : Outcome} → q ≡ o → FileRead q r text lengths heads starts entries heads′ starts′ entries′
-  file-as e = subst (λ (x : Outcome). FileRead x r text lengths heads starts entries heads′ starts′ entries′) (sym e) read
+  pub file-as : {q : Outcome} → q ≡ o → FileRead q r keys text lengths heads starts entries heads′ starts′ entries′
+  file-as e = subst (λ (x : Outcome). FileRead x r keys text lengths heads starts entries heads′ starts′ entries′) (sym e) read

@@ -11,28 +11,29 @@ use Rattle.wfsx.specs.Sets.{_isIn_}
 use Rattle.truth.proofs.Truth.{clash, refuted, not-intro, and-l, and-r, and-intro}
 use borrow.Author.Tests.{not-true}
 use Rattle.scan.specs.declared.Word.{Word}
+use Rattle.scan.specs.declared.Alphabet.the-variants.{EitherCase}
 use Rattle.reader.specs.File.{Content, allFields, wrongFields, malformed, declaredBefore, usesUndeclared, beyondTable, _when_else_, faultOf}
 
 pub record Passes (d : Content) (w : Word) (others : List (List ℕ)) : Type 0 where
   pub not-ended : d .ended ≡ false
   pub right-fields : wrongFields w others ≡ false
-  pub well-formed : malformed w others ≡ false
-  pub not-before : declaredBefore d w others ≡ false
-  pub all-declared : usesUndeclared d w others ≡ false
+  pub well-formed : malformed EitherCase w others ≡ false
+  pub not-before : declaredBefore EitherCase d w others ≡ false
+  pub all-declared : usesUndeclared EitherCase d w others ≡ false
   pub in-table : beyondTable d w others ≡ false
 
 passed : (n : ℕ) (b : Bool) (m : ℕ) → (suc n when b else m) ≡ 0 → (b ≡ false) × (m ≡ 0)
 passed n true m e = absurd (omega arith)
 passed n false m e = (refl, e)
 
-pub line-passes : (d : Content) (w : Word) (others : List (List ℕ)) → faultOf d w others ≡ 0 → Passes d w others
+pub line-passes : (d : Content) (w : Word) (others : List (List ℕ)) → faultOf EitherCase d w others ≡ 0 → Passes d w others
 unfolding faultOf
 line-passes d w others e =
     let a = passed 8 (d .ended) _ e in
     let b = passed 3 (wrongFields w others) _ (a .1) in
-    let c = passed 4 (malformed w others) _ (b .1) in
-    let f = passed 5 (declaredBefore d w others) _ (c .1) in
-    let g = passed 6 (usesUndeclared d w others) _ (f .1) in
+    let c = passed 4 (malformed EitherCase w others) _ (b .1) in
+    let f = passed 5 (declaredBefore EitherCase d w others) _ (c .1) in
+    let g = passed 6 (usesUndeclared EitherCase d w others) _ (f .1) in
     let h = passed 7 (beyondTable d w others) _ (g .1) in
     record { not-ended = a .0; right-fields = b .0; well-formed = c .0; not-before = f .0; all-declared = g .0; in-table = h .0 }
 

@@ -1,5 +1,5 @@
 -- Laws over the fields of a line: for a loop that has come to the field at place p, which ends at e, and for a field's name looked up.
-use mathlib.Core.Path.{_≡_, refl, ap, _∙_, sym, subst}
+use mathlib.Core.Path.{_≡_, refl, ap, _∙_, sym}
 use mathlib.Core.Bool.{Bool, true, false, cond, not, or-true, Bool·not-not}
 use mathlib.Core.List.{List, _∷_}
 use Prim.Native.Nat.{ℕ, zero, suc, _+_, _-_, _*_, _≤_, _<_, zero-le}
@@ -10,14 +10,13 @@ use Rattle.wfsx.specs.Program.{positive, default}
 use Rattle.scan.specs.Text.{lenTo, rest, tildes, minuses, nameOf, comma, fields}
 use Rattle.scan.proofs.Places.{rest-step, rest-none, rest-here}
 use Rattle.scan.proofs.Forms.{lead-most}
-use Rattle.book.specs.Limits.{maxNames}
 use Rattle.book.specs.Book.{find, codeOf}
 use Rattle.book.specs.declared.Found.{Found}
 use Rattle.book.specs.declared.Found.the-variants.{Nothing, At}
 use Rattle.scan.specs.declared.Word.the-variants.{Rule as RuleWord}
-use Rattle.book.proofs.Names.{found-small}
+use Rattle.scan.specs.declared.Alphabet.the-variants.{EitherCase}
 use Rattle.reader.specs.File.{allFields, declared, isFound, numberIn, literalNumber, entryFrom, isLiteral, hasTilde, malformed}
-use Rattle.reader.specs.Steps.{knownBy, knownOf, tableNames, FieldsKnown}
+use Rattle.reader.specs.Steps.{knownBy, knownOf}
 use Rattle.reader.specs.declared.Known.{Known}
 use Rattle.reader.specs.declared.Known.the-variants.{Undeclared, Entry}
 
@@ -51,26 +50,26 @@ first-field line e q = sym (rest-here comma line 0 zero-le) ∙ rest-step comma 
 -- ---- the form of a rule, by its head and its body
 
 module _ (h : List ℕ) (ls : List (List ℕ)) where
-  pub head-malformed : isLiteral h ≡ false → false ≡ not (malformed RuleWord (h ∷ ls))
+  pub head-malformed : isLiteral EitherCase h ≡ false → false ≡ not (malformed EitherCase RuleWord (h ∷ ls))
   unfolding malformed allFields
   head-malformed e = rw (e, or-true (hasTilde h))
 
-  pub head-tilde : hasTilde h ≡ true → false ≡ not (malformed RuleWord (h ∷ ls))
+  pub head-tilde : hasTilde h ≡ true → false ≡ not (malformed EitherCase RuleWord (h ∷ ls))
   unfolding malformed
   head-tilde e = rw e
 
-  pub head-formed : isLiteral h ≡ true → hasTilde h ≡ false → allFields isLiteral ls ≡ not (malformed RuleWord (h ∷ ls))
+  pub head-formed : isLiteral EitherCase h ≡ true → hasTilde h ≡ false → allFields (isLiteral EitherCase) ls ≡ not (malformed EitherCase RuleWord (h ∷ ls))
   unfolding malformed allFields
-  head-formed literal plain = rw (literal, plain, Bool·not-not (allFields isLiteral ls))
+  head-formed literal plain = rw (literal, plain, Bool·not-not (allFields (isLiteral EitherCase) ls))
 
 -- ---- a name looked up
 
 module _ (names : List (List ℕ)) (f : List ℕ) where
-  pub known-undeclared : find names (nameOf f) ≡ Nothing → knownOf names f ≡ Undeclared
+  pub known-undeclared : find EitherCase names (nameOf f) ≡ Nothing → knownOf names f ≡ Undeclared
   unfolding knownOf
   known-undeclared e = ap (λ (x : Found). knownBy x (tildes f) (minuses f)) e
 
-  pub known-entry : (i : ℕ) → find names (nameOf f) ≡ At i → knownOf names f ≡ Entry (2 * i + minuses f) (tildes f)
+  pub known-entry : (i : ℕ) → find EitherCase names (nameOf f) ≡ At i → knownOf names f ≡ Entry (2 * i + minuses f) (tildes f)
   unfolding knownOf
   known-entry i e = ap (λ (x : Found). knownBy x (tildes f) (minuses f)) e
 
@@ -86,26 +85,26 @@ module _ (names : List (List ℕ)) (f : List ℕ) where
   tildes-known Undeclared = tildes f
   tildes-known (Entry l t) = t
 
-  declared-test : declared names (nameOf f) ≡ is-known (knownOf names f)
+  declared-test : declared EitherCase names (nameOf f) ≡ is-known (knownOf names f)
   unfolding knownOf is-known
-  declared-test = go (find names (nameOf f))
+  declared-test = go (find EitherCase names (nameOf f))
     where
       go : (x : Found) → isFound x ≡ is-known (knownBy x (tildes f) (minuses f))
       go Nothing = refl
       go (At i) = refl
 
-  pub not-declared : knownOf names f ≡ Undeclared → declared names (nameOf f) ≡ false
+  pub not-declared : knownOf names f ≡ Undeclared → declared EitherCase names (nameOf f) ≡ false
   unfolding is-known
   not-declared e = declared-test ∙ ap is-known e
 
   module _ (l t : ℕ) (e : knownOf names f ≡ Entry l t) where
-    pub is-declared : declared names (nameOf f) ≡ true
+    pub is-declared : declared EitherCase names (nameOf f) ≡ true
     unfolding is-known
     is-declared = declared-test ∙ ap is-known e
 
-    pub literal-is : literalNumber names f ≡ l
+    pub literal-is : literalNumber EitherCase names f ≡ l
     unfolding knownOf literal-known literalNumber
-    literal-is = go (find names (nameOf f)) ∙ ap literal-known e
+    literal-is = go (find EitherCase names (nameOf f)) ∙ ap literal-known e
       where
         go : (x : Found) → 2 * numberIn x + minuses f ≡ literal-known (knownBy x (tildes f) (minuses f))
         go Nothing = omega arith
@@ -113,35 +112,28 @@ module _ (names : List (List ℕ)) (f : List ℕ) where
 
     pub tildes-are : tildes f ≡ t
     unfolding knownOf tildes-known
-    tildes-are = go (find names (nameOf f)) ∙ ap tildes-known e
+    tildes-are = go (find EitherCase names (nameOf f)) ∙ ap tildes-known e
       where
         go : (x : Found) → tildes f ≡ tildes-known (knownBy x (tildes f) (minuses f))
         go Nothing = refl
         go (At i) = refl
 
     -- the code that is stored for the field
-    pub code-is : codeOf (entryFrom names f) ≡ 2 * l + t
+    pub code-is : codeOf (entryFrom EitherCase names f) ≡ 2 * l + t
     unfolding entryFrom
     code-is = go (tildes f) tildes-are (lead-most 126 f)
       where
-        go : (n : ℕ) → n ≡ t → n ≤ 1 → codeOf (cond (eqb n 1) (default (literalNumber names f)) (positive (literalNumber names f))) ≡ 2 * l + t
+        go : (n : ℕ) → n ≡ t → n ≤ 1 → codeOf (cond (eqb n 1) (default (literalNumber EitherCase names f)) (positive (literalNumber EitherCase names f))) ≡ 2 * l + t
         go zero q h = omega (arith, literal-is)
         go (suc zero) q h = omega (arith, literal-is)
         go (suc (suc n)) q h = absurd (omega arith)
 
--- the literal and the mark of a field whose name a table of names has
-pub known-small : (text lengths : List ℕ) (count : ℕ) (f : List ℕ) (l t : ℕ) → knownOf (tableNames text lengths count) f ≡ Entry l t → (l < 2 * maxNames) × (t ≤ 1)
-unfolding literalNumber
-known-small text lengths count f l t e =
-    let names = tableNames text lengths count in
-    let few = go (find names (nameOf f)) refl in
-    (omega (arith, literal-is names f l t e, lead-most 45 (drop (tildes f) f)), omega (arith, tildes-are names f l t e, lead-most 126 f))
-  where
-    go : (x : Found) → find (tableNames text lengths count) (nameOf f) ≡ x → numberIn (find (tableNames text lengths count) (nameOf f)) < maxNames
-    go Nothing q = omega (arith, ap numberIn q)
-    go (At i) q = omega (arith, ap numberIn q, found-small text lengths count (nameOf f) i q)
+-- a literal by its name's number and its marks is small
+pub entry-small : (f : List ℕ) (i count l t : ℕ) → i < count → Entry (2 * i + minuses f) (tildes f) ≡ Entry l t → (l < 2 * count) × (t ≤ 1)
+entry-small f i count l t h e =
+    let literal : 2 * i + minuses f ≡ l = cc in
+    let mark : tildes f ≡ t = cc in
+    (omega (arith, literal, lead-most 45 (drop (tildes f) f)), omega (arith, mark, lead-most 126 f))
 
--- what the names of the tables say of the fields, the names that they hold say
-pub known-among : {names names′ fs : List (List ℕ)} {at : ℕ} {r : Bool} {entries entries′ : List ℕ} → names ≡ names′ → FieldsKnown names fs at r entries entries′
-    → FieldsKnown names′ fs at r entries entries′
-known-among {fs = fs} {at = at} {r = r} {entries = entries} {entries′ = entries′} e k = subst (λ (l : List (List ℕ)). FieldsKnown l fs at r entries entries′) e k
+pub undeclared-entry : {l t : ℕ} → Undeclared ≡ Entry l t → ⊥
+undeclared-entry e = let z : _≡_ {A = ℕ} 0 1 = cc in omega arith

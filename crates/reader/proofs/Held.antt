@@ -12,13 +12,13 @@ use lib.Seq.{sets}
 use Rattle.wfsx.specs.Program.{Rule}
 use Rattle.scan.specs.Text.{maxLength}
 use Rattle.scan.specs.declared.Word.the-variants.{Name, Rule as RuleWord, End}
+use Rattle.scan.specs.declared.Alphabet.the-variants.{EitherCase}
 use Rattle.book.specs.Limits.{maxNames, maxRules, maxEntries}
-use Rattle.book.specs.Book.{clamp, namesIn, codeOf, bodyCodes, textTable, lengthTable, startTable, bookOf}
+use Rattle.book.specs.Book.{codeOf, bodyCodes, textTable, lengthTable, startTable, bookOf}
 use Rattle.book.proofs.Tables.{allCodes, codes-none, codes-first, text-more, length-more, head-more, start-more, entry-more, text-none, lengths-none, heads-none, starts-none, entries-none, book-is}
-use Rattle.book.proofs.Counts.{clamp-least}
-use Rattle.book.proofs.Back.{names-back}
+use Rattle.keys.specs.Keyed.{Keyed}
 use Rattle.reader.specs.File.{Content, nothingYet, bodyLiterals, literalNumber, entryFrom, extended}
-use Rattle.reader.specs.Steps.{noCounts, Holds, Stored, tableNames, fieldCode}
+use Rattle.reader.specs.Steps.{noCounts, Holds, Stored, fieldCode}
 use Rattle.reader.specs.declared.Counts.{Counts}
 use Rattle.reader.proofs.Within.{literals-append}
 
@@ -35,32 +35,30 @@ codes-length (r ∷ rules) = rw codes-first (omega (arith, length-append (bodyCo
 
 -- ---- nothing
 
-pub nothing-held : Holds nothingYet noCounts (replicate (maxLength * maxNames) 0) (replicate maxNames 0)
+pub nothing-held : Holds nothingYet noCounts (replicate (3 * maxNames) 0) (replicate (maxLength * maxNames) 0) (replicate maxNames 0)
 unfolding bodyLiterals
 nothing-held =
     record {
       counted = record { names-are = refl; rules-are = refl; used-are = refl; ended-is = refl; fits = record { few-names = zero-le; few-rules = zero-le; few-literals = zero-le } };
+      keyed = record { room = refl; few = zero-le; has-key = λ k l. absurd (omega arith); short = λ k l. absurd (omega arith); own-place = λ k l. absurd (omega arith) };
       named = record { text-is = sym text-none; lengths-are = sym lengths-none; short = λ n i. absurd (List·Memᴰ·not-nil i) };
     }
 
 pub nothing-stored : Stored [] (replicate maxRules 0) (replicate (maxRules + 1) 0) (replicate maxEntries 0)
 nothing-stored = record { heads-are = sym heads-none; starts-are = sym starts-none; entries-are = sym entries-none }
 
-module _ {d : Content} {t : Counts} {text lengths : List ℕ} (h : Holds d t text lengths) where
-  pub held-names : tableNames text lengths (t .names) ≡ d .names
-  held-names =
-      let few : length (d .names) ≤ maxNames = omega (arith, h .counted .names-are, h .counted .fits .few-names) in
-      ap₂ (λ (x y : List ℕ). tableNames x y (t .names)) (h .named .text-is) (h .named .lengths-are)
-      ∙ ap (namesIn (textTable (d .names)) (lengthTable (d .names))) (ap (clamp maxNames) (h .counted .names-are) ∙ clamp-least maxNames (length (d .names)) few)
-      ∙ names-back (d .names) (h .named .short) few
+module _ {d : Content} {t : Counts} {keys text lengths : List ℕ} (h : Holds d t keys text lengths) where
+  -- the count of the names among which a line looks names up
+  pub names-held : t .names ≡ length (d .names)
+  names-held = h .counted .names-are
 
   -- ---- a name
 
-  pub name-held : (n text′ lengths′ : List ℕ) → t .names < maxNames → length n ≤ maxLength → text′ ≡ sets text (maxLength * t .names) n
+  pub name-held : (n : List ℕ) {keys′ text′ lengths′ : List ℕ} → t .names < maxNames → length n ≤ maxLength → Keyed (d .names ++ (n ∷ [])) keys′ → text′ ≡ sets text (maxLength * t .names) n
       → lengths′ ≡ set lengths (t .names) (length n)
-      → Holds (extended d Name (n ∷ [])) (record { names = t .names + 1; rules = t .rules; used = t .used; ended = t .ended }) text′ lengths′
+      → Holds (extended EitherCase d Name (n ∷ [])) (record { names = t .names + 1; rules = t .rules; used = t .used; ended = t .ended }) keys′ text′ lengths′
   unfolding extended
-  name-held n text′ lengths′ room short et el =
+  name-held n room short joined et el =
       let c = h .counted in
       let names = d .names in
       let size : length (names ++ (n ∷ [])) ≡ length names + 1 = length-append names (n ∷ []) in
@@ -73,6 +71,7 @@ module _ {d : Content} {t : Counts} {text lengths : List ℕ} (h : Holds d t tex
           ended-is = c .ended-is;
           fits = record { few-names = omega arith; few-rules = c .fits .few-rules; few-literals = c .fits .few-literals };
         };
+        keyed = joined;
         named = record {
           text-is = et ∙ ap₂ (λ (x : List ℕ) (k : ℕ). sets x (maxLength * k) n) (h .named .text-is) (c .names-are) ∙ text-more names n few (h .named .short) short;
           lengths-are = el ∙ ap₂ (λ (x : List ℕ) (k : ℕ). set x k (length n)) (h .named .lengths-are) (c .names-are) ∙ length-more names n few;
@@ -85,13 +84,13 @@ module _ {d : Content} {t : Counts} {text lengths : List ℕ} (h : Holds d t tex
   module _ {fs : List (List ℕ)} (f : List ℕ) (body : List (List ℕ)) (part : fs ≡ f ∷ body) (n : ℕ) (size : n + 1 ≡ length fs) (room : t .rules < maxRules)
       (fit : t .used + n ≤ maxEntries) where
     rule : Rule
-    rule = record { head = literalNumber (d .names) f; body = map (entryFrom (d .names)) body }
+    rule = record { head = literalNumber EitherCase (d .names) f; body = map (entryFrom EitherCase (d .names)) body }
 
     entry-count : length (rule .body) ≡ n
     unfolding rule
-    entry-count = omega (arith, ap length part, length-map body (entryFrom (d .names)))
+    entry-count = omega (arith, ap length part, length-map body (entryFrom EitherCase (d .names)))
 
-    pub rule-held : Holds (extended d RuleWord fs) (record { names = t .names; rules = t .rules + 1; used = t .used + n; ended = t .ended }) text lengths
+    pub rule-held : Holds (extended EitherCase d RuleWord fs) (record { names = t .names; rules = t .rules + 1; used = t .used + n; ended = t .ended }) keys text lengths
     unfolding extended rule
     rule-held =
         let c = h .counted in
@@ -103,12 +102,13 @@ module _ {d : Content} {t : Counts} {text lengths : List ℕ} (h : Holds d t tex
             ended-is = c .ended-is;
             fits = record { few-names = c .fits .few-names; few-rules = omega arith; few-literals = fit };
           };
+          keyed = h .keyed;
           named = h .named;
         })
 
-    pub rule-stored : {heads starts entries heads′ starts′ entries′ : List ℕ} → heads′ ≡ set heads (t .rules) (literalNumber (d .names) f)
+    pub rule-stored : {heads starts entries heads′ starts′ entries′ : List ℕ} → heads′ ≡ set heads (t .rules) (literalNumber EitherCase (d .names) f)
         → starts′ ≡ set starts (t .rules + 1) (t .used + n) → entries′ ≡ sets entries (t .used) (map (fieldCode (d .names)) body)
-        → Stored (d .rules) heads starts entries → Stored (extended d RuleWord fs .rules) heads′ starts′ entries′
+        → Stored (d .rules) heads starts entries → Stored (extended EitherCase d RuleWord fs .rules) heads′ starts′ entries′
     unfolding extended rule
     rule-stored eh es ee s =
         let c = h .counted in
@@ -122,18 +122,19 @@ module _ {d : Content} {t : Counts} {text lengths : List ℕ} (h : Holds d t tex
               es ∙ ap₂ (λ (x : List ℕ) (k : ℕ). set x (k + 1) (t .used + n)) (s .starts-are) (c .rules-are)
               ∙ ap (set (startTable rules) (length rules + 1)) end ∙ start-more rules rule few;
           entries-are =
-              ee ∙ ap (sets _ (t .used)) (sym (map-map codeOf (entryFrom (d .names)) body))
+              ee ∙ ap (sets _ (t .used)) (sym (map-map codeOf (entryFrom EitherCase (d .names)) body))
               ∙ ap₂ (λ (x : List ℕ) (k : ℕ). sets x k (bodyCodes rule)) (s .entries-are) used ∙ entry-more rules rule (omega arith);
         })
 
   -- ---- `end`
 
-  pub end-held : (others : List (List ℕ)) → Holds (extended d End others) (record { names = t .names; rules = t .rules; used = t .used; ended = true }) text lengths
+  pub end-held : (others : List (List ℕ)) → Holds (extended EitherCase d End others) (record { names = t .names; rules = t .rules; used = t .used; ended = true }) keys text lengths
   unfolding extended
   end-held others =
       let c = h .counted in
       record {
         counted = record { names-are = c .names-are; rules-are = c .rules-are; used-are = c .used-are; ended-is = refl; fits = record { few-names = c .fits .few-names; few-rules = c .fits .few-rules; few-literals = c .fits .few-literals } };
+        keyed = h .keyed;
         named = h .named;
       }
 

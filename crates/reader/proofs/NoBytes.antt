@@ -8,20 +8,21 @@ use lib.ListN.{length}
 use borrow.Author.Tests.{ne-eqb}
 use Rattle.scan.specs.Text.{isText}
 use Rattle.scan.proofs.Bytes.{bytes-none}
+use Rattle.scan.specs.declared.Alphabet.{Alphabet}
 use Rattle.reader.specs.File.{accepted, refused, readFile}
 use Rattle.reader.specs.Conditions.{HasBytes}
 use Rattle.reader.specs.NoBytes.{readFile01}
 
-pub no-bytes : (file : List ℕ) → length file ≡ 0 → readFile file ≡ accepted [] []
+pub no-bytes : (α : Alphabet) (file : List ℕ) → length file ≡ 0 → readFile α file ≡ accepted [] []
 unfolding readFile
-no-bytes [] e = rw (bytes-none isText)
-no-bytes (b ∷ bs) e = absurd (omega arith)
+no-bytes α [] e = rw (bytes-none isText)
+no-bytes α (b ∷ bs) e = absurd (omega arith)
 
-pub no-bytes-before : readFile01 [] ≡ refused 3 0
+pub no-bytes-before : (α : Alphabet) → readFile01 α [] ≡ refused 3 0
 unfolding readFile01
-no-bytes-before = rw (bytes-none isText)
+no-bytes-before α = rw (bytes-none isText)
 
-pub bytes-as-before : (file : List ℕ) → HasBytes file → readFile file ≡ readFile01 file
+pub bytes-as-before : (α : Alphabet) (file : List ℕ) → HasBytes file → readFile α file ≡ readFile01 α file
 unfolding readFile readFile01
-bytes-as-before [] some = absurd (omega arith)
-bytes-as-before (b ∷ bs) some = rw (ne-eqb (suc (length bs)) 0 (λ z. omega arith))
+bytes-as-before α [] some = absurd (omega arith)
+bytes-as-before α (b ∷ bs) some = rw (ne-eqb (suc (length bs)) 0 (λ z. omega arith))

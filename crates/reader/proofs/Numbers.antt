@@ -11,6 +11,7 @@ use borrow.Author.Tests.{le-leb, lt-leb, lt-ltb, le-ltb}
 use Rattle.scan.specs.Text.{isName}
 use Rattle.scan.specs.declared.Word.{Word}
 use Rattle.scan.specs.declared.Word.the-variants.{Name, Rule as RuleWord, End}
+use Rattle.scan.specs.declared.Alphabet.the-variants.{EitherCase}
 use Rattle.book.specs.Limits.{maxNames, maxRules, maxEntries, maxBody}
 use Rattle.reader.proofs.FieldCounts.{rule-right}
 use Rattle.reader.specs.File.{Content, bodyLiterals, allFields, declared, isKnown, wrongFields, malformed, declaredBefore, usesUndeclared, beyondTable, faultOf}
@@ -18,11 +19,11 @@ use Rattle.reader.specs.Steps.{Counted}
 use Rattle.reader.specs.declared.Counts.{Counts}
 
 module _ (d : Content) (w : Word) (others : List (List ℕ)) where
-  pub fault-ended : d .ended ≡ true → faultOf d w others ≡ 9
+  pub fault-ended : d .ended ≡ true → faultOf EitherCase d w others ≡ 9
   unfolding faultOf
   fault-ended e = rw e
 
-  pub fault-fields : d .ended ≡ false → wrongFields w others ≡ true → faultOf d w others ≡ 4
+  pub fault-fields : d .ended ≡ false → wrongFields w others ≡ true → faultOf EitherCase d w others ≡ 4
   unfolding faultOf
   fault-fields going e = rw (going, e)
 
@@ -31,21 +32,21 @@ module _ {d : Content} {t : Counts} (c : Counted d t) (going : t .ended ≡ fals
   not-ended = sym (c .ended-is) ∙ going
 
   module _ (n : List ℕ) where
-    pub name-malformed : isName n ≡ false → faultOf d Name (n ∷ []) ≡ 5
+    pub name-malformed : isName EitherCase n ≡ false → faultOf EitherCase d Name (n ∷ []) ≡ 5
     unfolding faultOf wrongFields malformed allFields
     name-malformed e = rw (not-ended, e)
 
-    module _ (named : isName n ≡ true) where
-      pub name-declared : declared (d .names) n ≡ true → faultOf d Name (n ∷ []) ≡ 6
+    module _ (named : isName EitherCase n ≡ true) where
+      pub name-declared : declared EitherCase (d .names) n ≡ true → faultOf EitherCase d Name (n ∷ []) ≡ 6
       unfolding faultOf wrongFields malformed declaredBefore allFields
       name-declared e = rw (not-ended, named, e)
 
-      module _ (new : declared (d .names) n ≡ false) where
-        pub name-beyond : maxNames ≤ t .names → faultOf d Name (n ∷ []) ≡ 8
+      module _ (new : declared EitherCase (d .names) n ≡ false) where
+        pub name-beyond : maxNames ≤ t .names → faultOf EitherCase d Name (n ∷ []) ≡ 8
         unfolding faultOf wrongFields malformed declaredBefore usesUndeclared beyondTable allFields
         name-beyond h = rw (not-ended, named, new, le-leb maxNames (length (d .names)) (omega (arith, c .names-are)))
 
-        pub name-fine : t .names < maxNames → faultOf d Name (n ∷ []) ≡ 0
+        pub name-fine : t .names < maxNames → faultOf EitherCase d Name (n ∷ []) ≡ 0
         unfolding faultOf wrongFields malformed declaredBefore usesUndeclared beyondTable allFields
         name-fine h = rw (not-ended, named, new, lt-leb maxNames (length (d .names)) (omega (arith, c .names-are)))
 
@@ -54,33 +55,33 @@ module _ {d : Content} {t : Counts} (c : Counted d t) (going : t .ended ≡ fals
     right : wrongFields RuleWord fs ≡ false
     right = rule-right fs (omega arith) (omega arith)
 
-    pub rule-malformed : malformed RuleWord fs ≡ true → faultOf d RuleWord fs ≡ 5
+    pub rule-malformed : malformed EitherCase RuleWord fs ≡ true → faultOf EitherCase d RuleWord fs ≡ 5
     unfolding faultOf
     rule-malformed e = rw (not-ended, right, e)
 
-    module _ (formed : malformed RuleWord fs ≡ false) where
-      pub rule-undeclared : allFields (isKnown (d .names)) fs ≡ false → faultOf d RuleWord fs ≡ 7
+    module _ (formed : malformed EitherCase RuleWord fs ≡ false) where
+      pub rule-undeclared : allFields (isKnown EitherCase (d .names)) fs ≡ false → faultOf EitherCase d RuleWord fs ≡ 7
       unfolding faultOf declaredBefore usesUndeclared
       rule-undeclared e = rw (not-ended, right, formed, e)
 
-      module _ (known : allFields (isKnown (d .names)) fs ≡ true) where
-        pub rule-too-many : maxRules ≤ t .rules → faultOf d RuleWord fs ≡ 8
+      module _ (known : allFields (isKnown EitherCase (d .names)) fs ≡ true) where
+        pub rule-too-many : maxRules ≤ t .rules → faultOf EitherCase d RuleWord fs ≡ 8
         unfolding faultOf declaredBefore usesUndeclared beyondTable
         rule-too-many h = rw (not-ended, right, formed, known, le-leb maxRules (length (d .rules)) (omega (arith, c .rules-are)))
 
-        pub rule-too-long : maxEntries < t .used + n → faultOf d RuleWord fs ≡ 8
+        pub rule-too-long : maxEntries < t .used + n → faultOf EitherCase d RuleWord fs ≡ 8
         unfolding faultOf declaredBefore usesUndeclared beyondTable
         rule-too-long h =
             let long = lt-ltb maxEntries (bodyLiterals (d .rules) + (length fs - 1)) (omega (arith, c .used-are)) in
             rw (not-ended, right, formed, known, long, or-true (leb maxRules (length (d .rules))))
 
-        pub rule-fine : t .rules < maxRules → t .used + n ≤ maxEntries → faultOf d RuleWord fs ≡ 0
+        pub rule-fine : t .rules < maxRules → t .used + n ≤ maxEntries → faultOf EitherCase d RuleWord fs ≡ 0
         unfolding faultOf declaredBefore usesUndeclared beyondTable
         rule-fine h l =
             let room = lt-leb maxRules (length (d .rules)) (omega (arith, c .rules-are)) in
             let short = le-ltb maxEntries (bodyLiterals (d .rules) + (length fs - 1)) (omega (arith, c .used-are)) in
             rw (not-ended, right, formed, known, room, short)
 
-  pub end-fine : (others : List (List ℕ)) → wrongFields End others ≡ false → faultOf d End others ≡ 0
+  pub end-fine : (others : List (List ℕ)) → wrongFields End others ≡ false → faultOf EitherCase d End others ≡ 0
   unfolding faultOf malformed declaredBefore usesUndeclared beyondTable
   end-fine others e = rw (not-ended, e)

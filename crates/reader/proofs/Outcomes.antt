@@ -6,7 +6,8 @@ use mathlib.Core.List.{List}
 use Prim.Native.Nat.{ℕ}
 use native.Mathlib.Omega.{arith}
 use Rattle.wfsx.specs.Program.{Rule}
-use Rattle.scan.proofs.Bytes.{name-fits}
+use Rattle.scan.proofs.Names.{name-fits}
+use Rattle.scan.specs.declared.Alphabet.the-variants.{EitherCase}
 use Rattle.book.specs.Book.{namesOf, rulesOf, bookOf}
 use Rattle.book.specs.declared.Book.{Book}
 use Rattle.book.proofs.Back.{Storable, book-names, book-rules}
@@ -19,7 +20,7 @@ use Rattle.reader.proofs.Within.{Within, accepted-within}
 
 -- ---- the names and rules of an accepted file
 
-module _ (file : List ℕ) (names : List (List ℕ)) (rules : List Rule) (e : readFile file ≡ accepted names rules) where
+module _ (file : List ℕ) (names : List (List ℕ)) (rules : List Rule) (e : readFile EitherCase file ≡ accepted names rules) where
   within : Within (record { names = names; rules = rules; ended = true })
   within = accepted-within file names rules e
 
@@ -31,7 +32,7 @@ module _ (file : List ℕ) (names : List (List ℕ)) (rules : List Rule) (e : re
       }
 
   pub names-loaded : namesOf (bookOf names rules) ≡ names
-  names-loaded = book-names names rules (λ n i. name-fits n (within .names-fit n i) .1) (within .few-names)
+  names-loaded = book-names names rules (λ n i. name-fits EitherCase n (within .names-fit n i) .1) (within .few-names)
 
   pub rules-loaded : rulesOf (bookOf names rules) ≡ rules
   rules-loaded = book-rules names rules storable (within .few-rules)

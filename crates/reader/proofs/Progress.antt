@@ -8,6 +8,7 @@ use lib.ListN.{length, take, drop}
 use borrow.Author.Tests.{ne-eqb}
 use Rattle.scan.specs.Text.{newline, split, lenTo, rest, fields}
 use Rattle.scan.proofs.Places.{rest-here, rest-step, rest-none}
+use Rattle.scan.specs.declared.Alphabet.the-variants.{EitherCase}
 use Rattle.reader.specs.File.{Content, nothingYet, lineFault, withLine, accepted, refused, readLines}
 use Rattle.reader.specs.Steps.{noCounts, Holds, Stored, lastAnswer, FileRead}
 use Rattle.reader.specs.declared.Counts.{Counts}
@@ -15,42 +16,42 @@ use Rattle.reader.specs.declared.FileAnswer.the-variants as whole
 
 module _ (d : Content) (number : ℕ) (b : List ℕ) (at : ℕ) where
   module _ (e : ℕ) (h : at ≤ length b) (q : e ≡ at + lenTo newline (drop at b)) where
-    pub lines-go : lineFault d (fields (take (e - at) (drop at b))) ≡ 0
-        → readLines d number (rest newline b at) ≡ readLines (withLine d (fields (take (e - at) (drop at b)))) (number + 1) (rest newline b (e + 1))
+    pub lines-go : lineFault EitherCase d (fields (take (e - at) (drop at b))) ≡ 0
+        → readLines EitherCase d number (rest newline b at) ≡ readLines EitherCase (withLine EitherCase d (fields (take (e - at) (drop at b)))) (number + 1) (rest newline b (e + 1))
     unfolding readLines
-    lines-go f = ap (readLines d number) (rest-step newline b at e h q) ∙ rw f
+    lines-go f = ap (readLines EitherCase d number) (rest-step newline b at e h q) ∙ rw f
 
-    pub lines-stop : (k : ℕ) → lineFault d (fields (take (e - at) (drop at b))) ≡ k → (k ≡ 0 → ⊥) → readLines d number (rest newline b at) ≡ refused k number
+    pub lines-stop : (k : ℕ) → lineFault EitherCase d (fields (take (e - at) (drop at b))) ≡ k → (k ≡ 0 → ⊥) → readLines EitherCase d number (rest newline b at) ≡ refused k number
     unfolding readLines
-    lines-stop k f n = ap (readLines d number) (rest-step newline b at e h q) ∙ rw (f, ne-eqb k 0 n)
+    lines-stop k f n = ap (readLines EitherCase d number) (rest-step newline b at e h q) ∙ rw (f, ne-eqb k 0 n)
 
-  pub lines-end : length b < at → readLines d number (rest newline b at) ≡ cond (d .ended) (accepted (d .names) (d .rules)) (refused 9 number)
+  pub lines-end : length b < at → readLines EitherCase d number (rest newline b at) ≡ cond (d .ended) (accepted (d .names) (d .rules)) (refused 9 number)
   unfolding readLines
-  lines-end h = ap (readLines d number) (rest-none newline b at h)
+  lines-end h = ap (readLines EitherCase d number) (rest-none newline b at h)
 
 -- what has been read up to place `at`, and that what is left decides
-pub record ReadTo (b : List ℕ) (t : Counts) (at number : ℕ) (text lengths heads starts entries heads′ starts′ entries′ : List ℕ) : Type 0 where
+pub record ReadTo (b : List ℕ) (t : Counts) (at number : ℕ) (keys text lengths heads starts entries heads′ starts′ entries′ : List ℕ) : Type 0 where
   pub content : Content
-  pub held : Holds content t text lengths
+  pub held : Holds content t keys text lengths
   pub stored : Stored [] heads starts entries → Stored (content .rules) heads′ starts′ entries′
-  pub same : readLines content number (rest newline b at) ≡ readLines nothingYet 1 (split newline b)
+  pub same : readLines EitherCase content number (rest newline b at) ≡ readLines EitherCase nothingYet 1 (split newline b)
 
-pub read-none : (b : List ℕ) {text lengths heads starts entries : List ℕ} → Holds nothingYet noCounts text lengths
-    → ReadTo b noCounts 0 1 text lengths heads starts entries heads starts entries
-read-none b h = record { content = nothingYet; held = h; stored = λ s. s; same = ap (readLines nothingYet 1) (rest-here newline b 0 zero-le) }
+pub read-none : (b : List ℕ) {keys text lengths heads starts entries : List ℕ} → Holds nothingYet noCounts keys text lengths
+    → ReadTo b noCounts 0 1 keys text lengths heads starts entries heads starts entries
+read-none b h = record { content = nothingYet; held = h; stored = λ s. s; same = ap (readLines EitherCase nothingYet 1) (rest-here newline b 0 zero-le) }
 
-module _ {b : List ℕ} {t : Counts} {at number : ℕ} {text lengths heads starts entries heads′ starts′ entries′ : List ℕ}
-    (read : ReadTo b t at number text lengths heads starts entries heads′ starts′ entries′) (none-left : length b < at) where
+module _ {b : List ℕ} {t : Counts} {at number : ℕ} {keys text lengths heads starts entries heads′ starts′ entries′ : List ℕ}
+    (read : ReadTo b t at number keys text lengths heads starts entries heads′ starts′ entries′) (none-left : length b < at) where
   outcome : (x : Bool) → t .ended ≡ x
-      → readLines nothingYet 1 (split newline b) ≡ cond x (accepted (read .content .names) (read .content .rules)) (refused 9 number)
+      → readLines EitherCase nothingYet 1 (split newline b) ≡ cond x (accepted (read .content .names) (read .content .rules)) (refused 9 number)
   outcome x e =
       let d = read .content in
       sym (read .same) ∙ lines-end d number b at none-left ∙ ap (λ (z : Bool). cond z (accepted (d .names) (d .rules)) (refused 9 number)) (sym (read .held .counted .ended-is) ∙ e)
 
   by-end : (x : Bool) → t .ended ≡ x
-      → FileRead (readLines nothingYet 1 (split newline b)) (cond x (whole.Fine t) (whole.Fault 9 number)) text lengths heads starts entries heads′ starts′ entries′
+      → FileRead (readLines EitherCase nothingYet 1 (split newline b)) (cond x (whole.Fine t) (whole.Fault 9 number)) keys text lengths heads starts entries heads′ starts′ entries′
   by-end true e = record { answer = record { content = read .content; outcome = outcome true e; held = read .held; stored = read .stored } }
   by-end false e = record { answer = outcome false e }
 
-  pub read-last : FileRead (readLines nothingYet 1 (split newline b)) (lastAnswer t number) text lengths heads starts entries heads′ starts′ entries′
+  pub read-last : FileRead (readLines EitherCase nothingYet 1 (split newline b)) (lastAnswer t number) keys text lengths heads starts entries heads′ starts′ entries′
   read-last = by-end (t .ended) refl

@@ -15,6 +15,7 @@ use Rattle.scan.specs.Text.{fields, wordOf, nameWord, endWord, comma}
 use Rattle.scan.specs.declared.Word.{Word}
 use Rattle.scan.specs.declared.Word.the-variants.{Name, Rule as RuleWord, End, Unknown}
 use Rattle.scan.proofs.Words.{IsWord, first-is, word-is}
+use Rattle.scan.specs.declared.Alphabet.the-variants.{EitherCase}
 use Rattle.reader.proofs.FieldCounts.{end-fields}
 use Rattle.reader.specs.File.{Content, nothingYet, wrongFields, lineFault, extended, withLine, accepted, linesOf, readFile}
 use Rattle.reader.specs.Conditions.{HasBytes, _startsWith_, saidBy, closed}
@@ -27,15 +28,15 @@ abbrev pub SomeLine : List (List ℕ) → (List (List ℕ) → Type 0) → Type 
 SomeLine lines Q = (line : List ℕ) × (line isIn lines) × Q (fields line)
 
 -- what a line adds where it has Q, the lines have where one of them has Q
-lines-add : (P : Content → Type 0) (Q : List (List ℕ) → Type 0) → ((d : Content) (fs : List (List ℕ)) → P (withLine d fs) ↔ (P d ⊎ Q fs)) → (d : Content)
+lines-add : (P : Content → Type 0) (Q : List (List ℕ) → Type 0) → ((d : Content) (fs : List (List ℕ)) → P (withLine EitherCase d fs) ↔ (P d ⊎ Q fs)) → (d : Content)
     (lines : List (List ℕ)) → P (saidBy d lines) ↔ (P d ⊎ SomeLine lines Q)
 lines-add P Q step d [] = (λ p. inl p, ⊎-elim (λ p. p) (λ s. absurd (List·Memᴰ·not-nil (s .1))))
 lines-add P Q step d (line ∷ lines) =
-    let rest = lines-add P Q step (withLine d (fields line)) lines in
+    let rest = lines-add P Q step (withLine EitherCase d (fields line)) lines in
     (λ p. there (rest .0 p), λ s. rest .1 (back s))
   where
     now : Content
-    now = withLine d (fields line)
+    now = withLine EitherCase d (fields line)
 
     there : P now ⊎ SomeLine lines Q → P d ⊎ SomeLine (line ∷ lines) Q
     there (inl p) = ⊎-elim (λ q. inl q) (λ q. inr (line, List·Memᴰ·head refl, q)) (step d (fields line) .0 p)
@@ -47,24 +48,24 @@ lines-add P Q step d (line ∷ lines) =
 
 -- ---- `end`
 
-ended-line : (d : Content) (fs : List (List ℕ)) → (withLine d fs .ended ≡ true) ↔ ((d .ended ≡ true) ⊎ (fs startsWith endWord))
+ended-line : (d : Content) (fs : List (List ℕ)) → (withLine EitherCase d fs .ended ≡ true) ↔ ((d .ended ≡ true) ⊎ (fs startsWith endWord))
 unfolding withLine extended
 ended-line d [] = (λ e. inl e, ⊎-elim (λ e. e) (λ s. absurd s))
 ended-line d (first ∷ others) = (there (wordOf first) (first-is first), back)
   where
-    there : (w : Word) → IsWord w first → extended d w others .ended ≡ true → (d .ended ≡ true) ⊎ (first ≡ endWord)
+    there : (w : Word) → IsWord w first → extended EitherCase d w others .ended ≡ true → (d .ended ≡ true) ⊎ (first ≡ endWord)
     there Name s e = inl e
     there RuleWord s e = inl e
     there End s e = inr s
     there Unknown s e = inl e
 
-    kept : (w : Word) → d .ended ≡ true → extended d w others .ended ≡ true
+    kept : (w : Word) → d .ended ≡ true → extended EitherCase d w others .ended ≡ true
     kept Name e = e
     kept RuleWord e = e
     kept End e = refl
     kept Unknown e = e
 
-    back : (d .ended ≡ true) ⊎ (first ≡ endWord) → extended d (wordOf first) others .ended ≡ true
+    back : (d .ended ≡ true) ⊎ (first ≡ endWord) → extended EitherCase d (wordOf first) others .ended ≡ true
     back (inl e) = kept (wordOf first) e
     back (inr s) = rw (word-is End first s)
 
@@ -75,24 +76,24 @@ ended-is lines =
 
 -- ---- names
 
-named-line : (n : List ℕ) (d : Content) (fs : List (List ℕ)) → (n isIn withLine d fs .names) ↔ ((n isIn d .names) ⊎ ((fs startsWith nameWord) × (n isIn drop 1 fs)))
+named-line : (n : List ℕ) (d : Content) (fs : List (List ℕ)) → (n isIn withLine EitherCase d fs .names) ↔ ((n isIn d .names) ⊎ ((fs startsWith nameWord) × (n isIn drop 1 fs)))
 unfolding withLine extended
 named-line n d [] = (λ m. inl m, ⊎-elim (λ m. m) (λ s. absurd (s .0)))
 named-line n d (first ∷ others) = (there (wordOf first) (first-is first), back)
   where
-    there : (w : Word) → IsWord w first → n isIn extended d w others .names → (n isIn d .names) ⊎ ((first ≡ nameWord) × (n isIn others))
+    there : (w : Word) → IsWord w first → n isIn extended EitherCase d w others .names → (n isIn d .names) ⊎ ((first ≡ nameWord) × (n isIn others))
     there Name s m = ⊎-elim (λ i. inl i) (λ i. inr (s, i)) (List·Memᴰ·append-cases (d .names) m)
     there RuleWord s m = inl m
     there End s m = inl m
     there Unknown s m = inl m
 
-    kept : (w : Word) → n isIn d .names → n isIn extended d w others .names
+    kept : (w : Word) → n isIn d .names → n isIn extended EitherCase d w others .names
     kept Name m = Memᴰ·append-left others m
     kept RuleWord m = m
     kept End m = m
     kept Unknown m = m
 
-    back : (n isIn d .names) ⊎ ((first ≡ nameWord) × (n isIn others)) → n isIn extended d (wordOf first) others .names
+    back : (n isIn d .names) ⊎ ((first ≡ nameWord) × (n isIn others)) → n isIn extended EitherCase d (wordOf first) others .names
     back (inl m) = kept (wordOf first) m
     back (inr s) = rw (word-is Name first (s .0)) (Memᴰ·append-right (d .names) (s .1))
 
@@ -103,12 +104,12 @@ declared-in n lines =
 
 -- ---- the last line
 
-open-line : (d : Content) (fs : List (List ℕ)) → lineFault d fs ≡ 0 → d .ended ≡ false
+open-line : (d : Content) (fs : List (List ℕ)) → lineFault EitherCase d fs ≡ 0 → d .ended ≡ false
 unfolding lineFault
 open-line d [] e = absurd (omega arith)
 open-line d (first ∷ others) e = line-passes d (wordOf first) others e .not-ended
 
-end-only : (d : Content) (fs : List (List ℕ)) → lineFault d fs ≡ 0 → fs startsWith endWord → fs ≡ endWord ∷ []
+end-only : (d : Content) (fs : List (List ℕ)) → lineFault EitherCase d fs ≡ 0 → fs startsWith endWord → fs ≡ endWord ∷ []
 unfolding lineFault
 end-only d [] e s = absurd s
 end-only d (first ∷ others) e s =
@@ -132,11 +133,11 @@ lines-end d (line ∷ []) u f e =
     let word = ⊎-elim (λ z. absurd (clash z u)) (λ s. s) (ended-line d (fields line) .0 e) in
     ([], ap (λ (l : List ℕ). l ∷ []) (end-alone line (end-only d (fields line) (f .0) word)), u)
 lines-end d (line ∷ next ∷ lines) u f e =
-    let now = withLine d (fields line) in
+    let now = withLine EitherCase d (fields line) in
     let r = lines-end now (next ∷ lines) (open-line now (fields next) (f .1 .0)) (f .1) e in
     (line ∷ r .0, ap (λ (l : List (List ℕ)). line ∷ l) (r .1), r .2)
 
-pub end-last : (file : List ℕ) (names : List (List ℕ)) (rules : List Rule) → HasBytes file → readFile file ≡ accepted names rules
+pub end-last : (file : List ℕ) (names : List (List ℕ)) (rules : List Rule) → HasBytes file → readFile EitherCase file ≡ accepted names rules
     → (before : List (List ℕ)) × (linesOf file ≡ before ++ endWord ∷ []) × (SomeLine before (λ fs. fs startsWith endWord) → ⊥)
 end-last file names rules some e =
     let r = ⊎-elim (λ r. r) (λ none. absurd (omega (arith, ap length (none .0)))) (file-read file names rules e) in

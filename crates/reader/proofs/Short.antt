@@ -17,9 +17,10 @@ use Rattle.scan.specs.Text.{onto, split, fields, isName, wordOf, tildes, minuse
 use Rattle.scan.specs.declared.Word.{Word}
 use Rattle.scan.specs.declared.Word.the-variants.{Name, Rule as RuleWord, End, Unknown}
 use Rattle.scan.proofs.Places.{split-none, split-stop, split-byte, split-some}
-use Rattle.scan.proofs.Bytes.{name-fits}
+use Rattle.scan.proofs.Names.{name-fits}
 use Rattle.scan.proofs.Words.{IsWord, first-is}
 use Rattle.scan.proofs.Forms.{lead-most}
+use Rattle.scan.specs.declared.Alphabet.the-variants.{EitherCase}
 use Rattle.reader.proofs.FieldCounts.{name-fields, rule-fields, end-fields, unknown-wrong}
 use Rattle.reader.specs.File.{Content, nothingYet, bodyLiterals, allFields, isLiteral, hasTilde, malformed, lineFault, entryFrom, ruleFrom, extended, withLine, accepted, maxBytes, linesOf, readFile}
 use Rattle.reader.specs.Conditions.{saidBy}
@@ -50,17 +51,17 @@ split-total stop (x ∷ xs) = go (split-total stop xs) (eqb x stop) refl
 
 -- ---- literals
 
-literal-length : (f : List ℕ) → isLiteral f ≡ true → length f ≤ tildes f + (maxLength + 1)
+literal-length : (f : List ℕ) → isLiteral EitherCase f ≡ true → length f ≤ tildes f + (maxLength + 1)
 literal-length f e =
     let a = length-drop (minuses f) (drop (tildes f) f) in
     let b = length-drop (tildes f) f in
-    let n = name-fits (nameOf f) e .1 in
+    let n = name-fits EitherCase (nameOf f) e .1 in
     omega (arith, lead-most 45 (drop (tildes f) f))
 
-literal-short : (f : List ℕ) → isLiteral f ≡ true → length f < maxLength + 3
+literal-short : (f : List ℕ) → isLiteral EitherCase f ≡ true → length f < maxLength + 3
 literal-short f e = omega (arith, literal-length f e, lead-most 126 f)
 
-head-length : (f : List ℕ) → isLiteral f ≡ true → hasTilde f ≡ false → length f ≤ maxLength + 1
+head-length : (f : List ℕ) → isLiteral EitherCase f ≡ true → hasTilde f ≡ false → length f ≤ maxLength + 1
 head-length f e h = let z : tildes f ≡ 0 = none (tildes f) (lead-most 126 f) (eqb-false (tildes f) 1 h) in omega (arith, literal-length f e)
   where
     none : (n : ℕ) → n ≤ 1 → (n ≡ 1 → ⊥) → n ≡ 0
@@ -82,35 +83,35 @@ unfoldable pub weight : Content → ℕ
 weight d = (maxLength + 6) * length (d .names) + (maxLength + 7) * length (d .rules) + (maxLength + 3) * bodyLiterals (d .rules) + cond (d .ended) 4 0
 
 module _ (d : Content) (first : List ℕ) where
-  weight-name : (others : List (List ℕ)) → first ≡ nameWord → Passes d Name others → weight d + byteCount (first ∷ others) ≤ weight (extended d Name others)
+  weight-name : (others : List (List ℕ)) → first ≡ nameWord → Passes d Name others → weight d + byteCount (first ∷ others) ≤ weight (extended EitherCase d Name others)
   unfolding extended malformed byteCount weight
   weight-name others e c =
       let one = name-fields others (c .right-fields) in
-      let short = fields-total isName (maxLength + 1) (λ x h. suc-le-suc (name-fits x h .1)) others (not-false (allFields isName others) (c .well-formed)) in
+      let short = fields-total (isName EitherCase) (maxLength + 1) (λ x h. suc-le-suc (name-fits EitherCase x h .1)) others (not-false (allFields (isName EitherCase) others) (c .well-formed)) in
       omega (arith, ap length e, length-append (d .names) others)
 
-  weight-rule : (others : List (List ℕ)) → first ≡ ruleWord → Passes d RuleWord others → weight d + byteCount (first ∷ others) ≤ weight (extended d RuleWord others)
+  weight-rule : (others : List (List ℕ)) → first ≡ ruleWord → Passes d RuleWord others → weight d + byteCount (first ∷ others) ≤ weight (extended EitherCase d RuleWord others)
   unfolding extended malformed byteCount weight allFields bodyLiterals
   weight-rule [] e c = let some = rule-fields [] (c .right-fields) .0 in absurd (omega arith)
   weight-rule (h ∷ body) e c =
-      let forms = neither (hasTilde h) (not (allFields isLiteral (h ∷ body))) (c .well-formed) in
-      let all = not-false (allFields isLiteral (h ∷ body)) (forms .1) in
-      let head-short = head-length h (and-l (isLiteral h) (allFields isLiteral body) all) (forms .0) in
-      let body-short = fields-total isLiteral (maxLength + 3) literal-short body (and-r (isLiteral h) (allFields isLiteral body) all) in
-      let new = ruleFrom (d .names) (h ∷ body) in
-      omega (arith, ap length e, length-append (d .rules) new, literals-append (d .rules) new, length-map body (entryFrom (d .names)))
+      let forms = neither (hasTilde h) (not (allFields (isLiteral EitherCase) (h ∷ body))) (c .well-formed) in
+      let all = not-false (allFields (isLiteral EitherCase) (h ∷ body)) (forms .1) in
+      let head-short = head-length h (and-l (isLiteral EitherCase h) (allFields (isLiteral EitherCase) body) all) (forms .0) in
+      let body-short = fields-total (isLiteral EitherCase) (maxLength + 3) literal-short body (and-r (isLiteral EitherCase h) (allFields (isLiteral EitherCase) body) all) in
+      let new = ruleFrom EitherCase (d .names) (h ∷ body) in
+      omega (arith, ap length e, length-append (d .rules) new, literals-append (d .rules) new, length-map body (entryFrom EitherCase (d .names)))
 
-  weight-end : (others : List (List ℕ)) → first ≡ endWord → Passes d End others → weight d + byteCount (first ∷ others) ≤ weight (extended d End others)
+  weight-end : (others : List (List ℕ)) → first ≡ endWord → Passes d End others → weight d + byteCount (first ∷ others) ≤ weight (extended EitherCase d End others)
   unfolding extended byteCount weight
   weight-end others e c = rw (end-fields others (c .right-fields), c .not-ended) (omega (arith, ap length e))
 
-  weight-word : (w : Word) (others : List (List ℕ)) → IsWord w first → Passes d w others → weight d + byteCount (first ∷ others) ≤ weight (extended d w others)
+  weight-word : (w : Word) (others : List (List ℕ)) → IsWord w first → Passes d w others → weight d + byteCount (first ∷ others) ≤ weight (extended EitherCase d w others)
   weight-word Name others e c = weight-name others e c
   weight-word RuleWord others e c = weight-rule others e c
   weight-word End others e c = weight-end others e c
   weight-word Unknown others e c = absurd (clash (unknown-wrong others) (c .right-fields))
 
-weight-fields : (d : Content) (fs : List (List ℕ)) → lineFault d fs ≡ 0 → weight d + byteCount fs ≤ weight (withLine d fs)
+weight-fields : (d : Content) (fs : List (List ℕ)) → lineFault EitherCase d fs ≡ 0 → weight d + byteCount fs ≤ weight (withLine EitherCase d fs)
 unfolding lineFault withLine
 weight-fields d [] e = absurd (omega arith)
 weight-fields d (first ∷ others) e = weight-word d first (wordOf first) others (first-is first) (line-passes d (wordOf first) others e)
@@ -120,7 +121,7 @@ unfolding byteCount
 weight-lines d [] f = omega arith
 weight-lines d (line ∷ lines) f =
     let here = weight-fields d (fields line) (f .0) in
-    omega (arith, split-total comma line, weight-lines (withLine d (fields line)) lines (f .1))
+    omega (arith, split-total comma line, weight-lines (withLine EitherCase d (fields line)) lines (f .1))
 
 -- ---- the file
 
@@ -140,7 +141,7 @@ lines-total (b ∷ bs) =
     let file = b ∷ bs in
     omega (arith, split-total newline (take (length file - 1) file), length-take (length file - 1) file)
 
-pub accepted-short : (file : List ℕ) (names : List (List ℕ)) (rules : List Rule) → readFile file ≡ accepted names rules → length file < maxBytes
+pub accepted-short : (file : List ℕ) (names : List (List ℕ)) (rules : List Rule) → readFile EitherCase file ≡ accepted names rules → length file < maxBytes
 unfolding weight bodyLiterals
 accepted-short file names rules e = ⊎-elim by-lines (λ s. omega (arith, ap length (s .0))) (file-read file names rules e)
   where

@@ -5,6 +5,7 @@ use mathlib.Core.List.{List}
 use Prim.Native.Nat.{ℕ}
 use lib.ListN.{length}
 use Rattle.wfsx.specs.Program.{Rule}
+use Rattle.scan.specs.declared.Alphabet.the-variants.{EitherCase}
 use Rattle.book.specs.Book.{bookOf}
 use Rattle.reader.specs.File.{Content, accepted, refused, bodyLiterals, readFile}
 use Rattle.reader.specs.Sizing.{sizeOf, figuresOf}
@@ -17,7 +18,7 @@ use Rattle.reader.proofs.Outcomes.{names-loaded, rules-loaded}
 
 -- ---- the answer by the counts and by the refusal
 
-pub counted-size : {d : Content} {t : Counts} {text lengths : List ℕ} → Holds d t text lengths
+pub counted-size : {d : Content} {t : Counts} {keys text lengths : List ℕ} → Holds d t keys text lengths
     → _≡_ {A = SizeAnswer} (Accepted (t .names) (t .rules) (t .used)) (sizeOf (accepted (d .names) (d .rules)))
 unfolding sizeOf
 counted-size h = rw (h .counted .names-are, h .counted .rules-are, h .counted .used-are)
@@ -28,11 +29,11 @@ refused-size number line = refl
 
 -- ---- the figures of an accepted file
 
-pub accepted-size : (file : List ℕ) (names : List (List ℕ)) (rules : List Rule) → readFile file ≡ accepted names rules
+pub accepted-size : (file : List ℕ) (names : List (List ℕ)) (rules : List Rule) → readFile EitherCase file ≡ accepted names rules
     → sizeOf (accepted names rules) ≡ figuresOf (bookOf names rules)
 unfolding sizeOf
 accepted-size file names rules e = rw (names-loaded file names rules e, rules-loaded file names rules e)
 
-pub size-no-bytes : (file : List ℕ) → length file ≡ 0 → sizeOf (readFile file) ≡ Accepted 0 0 0
+pub size-no-bytes : (file : List ℕ) → length file ≡ 0 → sizeOf (readFile EitherCase file) ≡ Accepted 0 0 0
 unfolding sizeOf bodyLiterals
-size-no-bytes file e = rw (no-bytes file e)
+size-no-bytes file e = rw (no-bytes EitherCase file e)

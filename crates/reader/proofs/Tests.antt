@@ -11,15 +11,17 @@ use lib.ListN.{length, getD, drop}
 use borrow.Author.Tests.{ltb-true, lt-ltb, leb-true, le-leb, eqb-true, eq-eqb, ne-eqb, not-false}
 use Rattle.wfsx.specs.Sets.{_isIn_}
 use Rattle.truth.proofs.Truth.{clash, refuted, fails, or-is, and-is, not-is, leb-is, eqb-is, neither}
-use Rattle.scan.specs.Text.{isText, classOf, isLetter, inName, allBytes, isName, lead, tildes, nameOf, nameWord, ruleWord, wordOf, newline}
-use Rattle.scan.specs.declared.Class.the-variants.{Letter, Digit, Underscore, Other}
+use Rattle.scan.specs.Text.{isText, isCapital, classOf, isLetter, inName, allBytes, isName, lead, tildes, nameOf, nameWord, ruleWord, wordOf, newline, sameName}
+use Rattle.scan.specs.declared.Class.the-variants.{Letter, Capital, Digit, Underscore, Other}
 use Rattle.scan.specs.declared.Word.{Word}
 use Rattle.scan.specs.declared.Word.the-variants.{Name, Rule as RuleWord, End, Unknown}
-use Rattle.scan.proofs.Bytes.{bytes-none, bytes-first, name-parts, parts-name}
+use Rattle.scan.proofs.Bytes.{bytes-none, bytes-first}
+use Rattle.scan.proofs.Names.{name-parts, parts-name, same-decides}
 use Rattle.scan.proofs.Words.{IsWord, first-is, word-is}
+use Rattle.scan.specs.declared.Alphabet.the-variants.{EitherCase}
 use Rattle.book.specs.Limits.{maxNames, maxRules, maxEntries, maxBody}
-use Rattle.book.specs.Book.{sameName, findFrom}
-use Rattle.book.proofs.Lookup.{same-decides, find-none, find-first, find-later}
+use Rattle.book.specs.Book.{findFrom}
+use Rattle.book.proofs.Lookup.{find-none, find-first, find-later}
 use Rattle.reader.specs.File.{Content, bodyLiterals, allFields, isLiteral, hasTilde, isFound, declared, wrongFields, headTilde, malformed, declaredBefore, usesUndeclared, beyondTable, maxBytes, hasBytes, unended, isKnown}
 use Rattle.reader.specs.Conditions.{LetterByte, NameByte, NameText, Optional, LiteralText, TooLong, StrangeByte, HasBytes, LastLineOpen, SomeField, FieldsWrong, FormWrong, Declared, NameTaken, NameMissing, TableFull}
 use Rattle.reader.proofs.Faults.{each-field, each-passes, all-pass, fails-where}
@@ -47,40 +49,47 @@ last-open file =
 
 -- ---- names and literals
 
-letter-is : (b : ℕ) → (isLetter (classOf b) ≡ true) ↔ LetterByte b
-letter-is b = go (leb 97 b && leb b 122) (leb 48 b && leb b 57) (eqb b 95) (and-is (leb 97 b) (leb b 122) (leb-is 97 b) (leb-is b 122))
+letter-is : (b : ℕ) → (isLetter EitherCase (classOf b) ≡ true) ↔ LetterByte b
+letter-is b =
+    go (leb 97 b && leb b 122) (isCapital b) (leb 48 b && leb b 57) (eqb b 95)
+    (or-is (leb 97 b && leb b 122) (isCapital b) (and-is (leb 97 b) (leb b 122) (leb-is 97 b) (leb-is b 122)) (and-is (leb 65 b) (leb b 90) (leb-is 65 b) (leb-is b 90)))
   where
-    go : (s t u : Bool) → ((s ≡ true) ↔ LetterByte b) → (isLetter (cond s Letter (cond t Digit (cond u Underscore Other))) ≡ true) ↔ LetterByte b
-    go true t u d = d
-    go false true u d = d
-    go false false true d = d
-    go false false false d = d
+    go : (s c t u : Bool) → ((s || c ≡ true) ↔ LetterByte b)
+        → (isLetter EitherCase (cond s Letter (cond c Capital (cond t Digit (cond u Underscore Other)))) ≡ true) ↔ LetterByte b
+    go true c t u d = d
+    go false true t u d = d
+    go false false true u d = d
+    go false false false true d = d
+    go false false false false d = d
 
-byte-is : (b : ℕ) → (inName (classOf b) ≡ true) ↔ NameByte b
+byte-is : (b : ℕ) → (inName EitherCase (classOf b) ≡ true) ↔ NameByte b
 byte-is b =
-    go (leb 97 b && leb b 122) (leb 48 b && leb b 57) (eqb b 95)
-    (or-is (leb 97 b && leb b 122) ((leb 48 b && leb b 57) || eqb b 95) (and-is (leb 97 b) (leb b 122) (leb-is 97 b) (leb-is b 122))
+    go (leb 97 b && leb b 122) (isCapital b) (leb 48 b && leb b 57) (eqb b 95)
+    (or-is ((leb 97 b && leb b 122) || isCapital b) ((leb 48 b && leb b 57) || eqb b 95)
+    (or-is (leb 97 b && leb b 122) (isCapital b) (and-is (leb 97 b) (leb b 122) (leb-is 97 b) (leb-is b 122)) (and-is (leb 65 b) (leb b 90) (leb-is 65 b) (leb-is b 90)))
     (or-is (leb 48 b && leb b 57) (eqb b 95) (and-is (leb 48 b) (leb b 57) (leb-is 48 b) (leb-is b 57)) (eqb-is b 95)))
   where
-    go : (s t u : Bool) → ((s || (t || u) ≡ true) ↔ NameByte b) → (inName (cond s Letter (cond t Digit (cond u Underscore Other))) ≡ true) ↔ NameByte b
-    go true t u d = d
-    go false true u d = d
-    go false false true d = d
-    go false false false d = d
+    go : (s c t u : Bool) → (((s || c) || (t || u) ≡ true) ↔ NameByte b)
+        → (inName EitherCase (cond s Letter (cond c Capital (cond t Digit (cond u Underscore Other)))) ≡ true) ↔ NameByte b
+    go true c t u d = d
+    go false true t u d = d
+    go false false true u d = d
+    go false false false true d = d
+    go false false false false d = d
 
 letter-named : (b : ℕ) → LetterByte b → NameByte b
 letter-named b l = inl l
 
-pub name-is : (n : List ℕ) → (isName n ≡ true) ↔ NameText n
-name-is [] = (λ e. let h = name-parts [] e .some in absurd (omega arith), λ t. let h = t .nonempty in absurd (omega arith))
+pub name-is : (n : List ℕ) → (isName EitherCase n ≡ true) ↔ NameText n
+name-is [] = (λ e. let h = name-parts EitherCase [] e .some in absurd (omega arith), λ t. let h = t .nonempty in absurd (omega arith))
 name-is (x ∷ xs) = (there, back)
   where
     named : ℕ → Bool
-    named b = inName (classOf b)
+    named b = inName EitherCase (classOf b)
 
-    there : isName (x ∷ xs) ≡ true → NameText (x ∷ xs)
+    there : isName EitherCase (x ∷ xs) ≡ true → NameText (x ∷ xs)
     there e =
-        let p = name-parts (x ∷ xs) e in
+        let p = name-parts EitherCase (x ∷ xs) e in
         let first : LetterByte x = letter-is x .0 (p .letter) in
         record {
           nonempty = p .some;
@@ -90,9 +99,9 @@ name-is (x ∷ xs) = (there, back)
           begins = first;
         }
 
-    back : NameText (x ∷ xs) → isName (x ∷ xs) ≡ true
+    back : NameText (x ∷ xs) → isName EitherCase (x ∷ xs) ≡ true
     back t =
-        parts-name (x ∷ xs) (record {
+        parts-name EitherCase (x ∷ xs) (record {
           some = t .nonempty;
           few = t .short;
           letter = letter-is x .1 (t .begins);
@@ -119,32 +128,32 @@ name-first b (x ∷ xs) t h = rw (ne-eqb x b (λ e. h (rw e at (t .begins))))
 pub literal-name : (f n : List ℕ) → LiteralText f n → nameOf f ≡ n
 literal-name f n t =
     let r = t .0 in
-    let plain : lead 126 r ≡ 0 = ⊎-elim (λ e. rw e (name-first 126 n (t .3) (λ l. let h = l .1 in omega arith))) (λ e. rw e) (t .2) in
+    let plain : lead 126 r ≡ 0 = ⊎-elim (λ e. rw e (name-first 126 n (t .3) (⊎-elim (λ l. let h = l .1 in omega arith) (λ l. let h = l .1 in omega arith)))) (λ e. rw e) (t .2) in
     let rest : drop (tildes f) f ≡ r = taken-lead 126 f r (t .1) plain in
-    rw rest (taken-lead 45 r n (t .2) (name-first 45 n (t .3) (λ l. let h = l .0 in omega arith)))
+    rw rest (taken-lead 45 r n (t .2) (name-first 45 n (t .3) (⊎-elim (λ l. let h = l .0 in omega arith) (λ l. let h = l .0 in omega arith))))
 
-pub literal-is : (f : List ℕ) → (isLiteral f ≡ true) ↔ LiteralText f (nameOf f)
+pub literal-is : (f : List ℕ) → (isLiteral EitherCase f ≡ true) ↔ LiteralText f (nameOf f)
 literal-is f =
     (λ e. (drop (tildes f) f, lead-taken 126 f, lead-taken 45 (drop (tildes f) f), name-is (nameOf f) .0 e), λ t. name-is (nameOf f) .1 (t .3))
 
-not-literal : (f : List ℕ) → (isLiteral f ≡ false) ↔ ((n : List ℕ) → LiteralText f n → ⊥)
+not-literal : (f : List ℕ) → (isLiteral EitherCase f ≡ false) ↔ ((n : List ℕ) → LiteralText f n → ⊥)
 not-literal f =
     (λ e n t. clash (literal-is f .1 (subst (LiteralText f) (sym (literal-name f n t)) t)) e, λ h. refuted (λ e. h (nameOf f) (literal-is f .0 e)))
 
 -- ---- declared names
 
-found-is : (k : ℕ) (n : List ℕ) (names : List (List ℕ)) → (isFound (findFrom k n names) ≡ true) ↔ Declared names n
-found-is k n [] = rw (find-none k n) (λ e. absurd (true≢false (sym e)), λ s. absurd (List·Memᴰ·not-nil (s .1)))
-found-is k n (m ∷ ms) = go (found-is (suc k) n ms) (sameName m n) refl
+found-is : (k : ℕ) (n : List ℕ) (names : List (List ℕ)) → (isFound (findFrom EitherCase k n names) ≡ true) ↔ Declared names n
+found-is k n [] = rw (find-none EitherCase k n) (λ e. absurd (true≢false (sym e)), λ s. absurd (List·Memᴰ·not-nil (s .1)))
+found-is k n (m ∷ ms) = go (found-is (suc k) n ms) (sameName EitherCase m n) refl
   where
-    go : ((isFound (findFrom (suc k) n ms) ≡ true) ↔ Declared ms n) → (t : Bool) → sameName m n ≡ t → (isFound (findFrom k n (m ∷ ms)) ≡ true) ↔ Declared (m ∷ ms) n
-    go rest true p = rw (find-first k n m ms p) (λ e. (m, List·Memᴰ·head refl, same-decides m n .0 p), λ s. refl)
-    go rest false p = rw (find-later k n m ms p) (
+    go : ((isFound (findFrom EitherCase (suc k) n ms) ≡ true) ↔ Declared ms n) → (t : Bool) → sameName EitherCase m n ≡ t → (isFound (findFrom EitherCase k n (m ∷ ms)) ≡ true) ↔ Declared (m ∷ ms) n
+    go rest true p = rw (find-first EitherCase k n m ms p) (λ e. (m, List·Memᴰ·head refl, same-decides EitherCase m n .0 p), λ s. refl)
+    go rest false p = rw (find-later EitherCase k n m ms p) (
       λ e. let s = rest .0 e in (s .0, List·Memᴰ·tail (s .1), s .2),
-      λ s. ⊎-elim (λ e. absurd (clash (same-decides m n .1 (rw e at (s .2))) p)) (λ i. rest .1 (s .0, i, s .2)) (List·Memᴰ·cases-cons (s .1)),
+      λ s. ⊎-elim (λ e. absurd (clash (same-decides EitherCase m n .1 (rw e at (s .2))) p)) (λ i. rest .1 (s .0, i, s .2)) (List·Memᴰ·cases-cons (s .1)),
     )
 
-pub declared-is : (names : List (List ℕ)) (n : List ℕ) → (declared names n ≡ true) ↔ Declared names n
+pub declared-is : (names : List (List ℕ)) (n : List ℕ) → (declared EitherCase names n ≡ true) ↔ Declared names n
 declared-is names n = found-is 0 n names
 
 -- ---- numbers 4 to 8, by the first field
@@ -200,12 +209,12 @@ module _ (first : List ℕ) (others : List (List ℕ)) where
   unfolding allFields
   some-field f P d = fails-where f (allFields f) refl (λ x xs. refl) others P d
 
-  pub form-wrong : (malformed (wordOf first) others ≡ true) ↔ FormWrong (first ∷ others)
+  pub form-wrong : (malformed EitherCase (wordOf first) others ≡ true) ↔ FormWrong (first ∷ others)
   unfolding malformed
   form-wrong =
-      named-or-ruled (λ w. malformed w others) refl refl (some-field isName (λ n. NameText n → ⊥) (λ n m. fails (isName n) (name-is n)))
-      (λ s. or-is (headTilde others) (not (allFields isLiteral others)) (tilde others)
-      (some-field isLiteral (λ f. (n : List ℕ) → LiteralText f n → ⊥) (λ f m. not-literal f)))
+      named-or-ruled (λ w. malformed EitherCase w others) refl refl (some-field (isName EitherCase) (λ n. NameText n → ⊥) (λ n m. fails (isName EitherCase n) (name-is n)))
+      (λ s. or-is (headTilde others) (not (allFields (isLiteral EitherCase) others)) (tilde others)
+      (some-field (isLiteral EitherCase) (λ f. (n : List ℕ) → LiteralText f n → ⊥) (λ f m. not-literal f)))
     where
       tilde-is : (h : List ℕ) → (hasTilde h ≡ true) ↔ ((rest : List ℕ) × (h ≡ 126 ∷ rest))
       tilde-is [] = (λ e. absurd (true≢false (sym e)), λ r. let bad = ap length (r .1) in absurd (omega arith))
@@ -219,35 +228,35 @@ module _ (first : List ℕ) (others : List (List ℕ)) where
       tilde [] = (λ e. absurd (true≢false (sym e)), λ r. let bad = ap length (r .1) in absurd (omega arith))
       tilde (h ∷ body) = tilde-is h
 
-  pub name-taken : (d : Content) → (declaredBefore d (wordOf first) others ≡ true) ↔ NameTaken d (first ∷ others)
+  pub name-taken : (d : Content) → (declaredBefore EitherCase d (wordOf first) others ≡ true) ↔ NameTaken d (first ∷ others)
   unfolding declaredBefore
   name-taken d = (λ e. ⊎-elim (λ p. p) (λ p. absurd (p .1)) (one .0 e), λ p. one .1 (inl p))
     where
-      one : (declaredBefore d (wordOf first) others ≡ true) ↔ (NameTaken d (first ∷ others) ⊎ ((first ≡ ruleWord) × ⊥))
+      one : (declaredBefore EitherCase d (wordOf first) others ≡ true) ↔ (NameTaken d (first ∷ others) ⊎ ((first ≡ ruleWord) × ⊥))
       one =
-          named-or-ruled (λ w. declaredBefore d w others) refl refl (some-field (λ n. not (declared (d .names) n)) (Declared (d .names)) (λ n m. before n))
+          named-or-ruled (λ w. declaredBefore EitherCase d w others) refl refl (some-field (λ n. not (declared EitherCase (d .names) n)) (Declared (d .names)) (λ n m. before n))
           (λ s. (λ e. true≢false (sym e), λ z. absurd z))
         where
-          before : (n : List ℕ) → (not (declared (d .names) n) ≡ false) ↔ Declared (d .names) n
-          before n = (λ e. declared-is (d .names) n .0 (not-false (declared (d .names) n) e), λ m. ap not (declared-is (d .names) n .1 m))
+          before : (n : List ℕ) → (not (declared EitherCase (d .names) n) ≡ false) ↔ Declared (d .names) n
+          before n = (λ e. declared-is (d .names) n .0 (not-false (declared EitherCase (d .names) n) e), λ m. ap not (declared-is (d .names) n .1 m))
 
-  pub name-missing : (d : Content) → malformed (wordOf first) others ≡ false → (usesUndeclared d (wordOf first) others ≡ true) ↔ NameMissing d (first ∷ others)
+  pub name-missing : (d : Content) → malformed EitherCase (wordOf first) others ≡ false → (usesUndeclared EitherCase d (wordOf first) others ≡ true) ↔ NameMissing d (first ∷ others)
   unfolding usesUndeclared malformed
   name-missing d formed = (λ e. ⊎-elim (λ p. absurd (p .1)) (λ p. p) (one .0 e), λ p. one .1 (inr p))
     where
-      literals : first ≡ ruleWord → allFields isLiteral others ≡ true
-      literals s = not-false (allFields isLiteral others) (neither (headTilde others) (not (allFields isLiteral others)) (rw (word-is RuleWord first s) at formed) .1)
+      literals : first ≡ ruleWord → allFields (isLiteral EitherCase) others ≡ true
+      literals s = not-false (allFields (isLiteral EitherCase) others) (neither (headTilde others) (not (allFields (isLiteral EitherCase) others)) (rw (word-is RuleWord first s) at formed) .1)
 
-      missing : (f : List ℕ) → isLiteral f ≡ true → (declared (d .names) (nameOf f) ≡ false) ↔ ((n : List ℕ) × LiteralText f n × (Declared (d .names) n → ⊥))
+      missing : (f : List ℕ) → isLiteral EitherCase f ≡ true → (declared EitherCase (d .names) (nameOf f) ≡ false) ↔ ((n : List ℕ) × LiteralText f n × (Declared (d .names) n → ⊥))
       missing f l =
-          let failed = fails (declared (d .names) (nameOf f)) (declared-is (d .names) (nameOf f)) in
+          let failed = fails (declared EitherCase (d .names) (nameOf f)) (declared-is (d .names) (nameOf f)) in
           (λ e. (nameOf f, literal-is f .0 l, failed .0 e), λ r. failed .1 (rw (literal-name f (r .0) (r .1)) (r .2)))
 
-      one : (usesUndeclared d (wordOf first) others ≡ true) ↔ (((first ≡ nameWord) × ⊥) ⊎ NameMissing d (first ∷ others))
+      one : (usesUndeclared EitherCase d (wordOf first) others ≡ true) ↔ (((first ≡ nameWord) × ⊥) ⊎ NameMissing d (first ∷ others))
       one =
-          named-or-ruled (λ w. usesUndeclared d w others) refl refl (λ e. true≢false (sym e), λ z. absurd z)
-          (λ s. some-field (isKnown (d .names)) (λ f. (n : List ℕ) × LiteralText f n × (Declared (d .names) n → ⊥))
-          (λ f m. missing f (each-field isLiteral m (literals s))))
+          named-or-ruled (λ w. usesUndeclared EitherCase d w others) refl refl (λ e. true≢false (sym e), λ z. absurd z)
+          (λ s. some-field (isKnown EitherCase (d .names)) (λ f. (n : List ℕ) × LiteralText f n × (Declared (d .names) n → ⊥))
+          (λ f m. missing f (each-field (isLiteral EitherCase) m (literals s))))
 
   pub table-full : (d : Content) → (beyondTable d (wordOf first) others ≡ true) ↔ TableFull d (first ∷ others)
   unfolding beyondTable

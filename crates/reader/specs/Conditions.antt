@@ -9,15 +9,16 @@ use Prim.Native.Nat.{ℕ, _+_, _-_, _≤_, _<_}
 use lib.ListN.{length, getD, drop}
 use Rattle.wfsx.specs.Sets.{_isIn_}
 use Rattle.wfsx.specs.Program.{Rule}
-use Rattle.scan.specs.Text.{fields, nameWord, ruleWord, endWord, newline, maxLength}
+use Rattle.scan.specs.Text.{fields, nameWord, ruleWord, endWord, newline, maxLength, SameName}
+use Rattle.scan.specs.declared.Alphabet.the-variants.{EitherCase}
 use Rattle.book.specs.Limits.{maxNames, maxRules, maxEntries, maxBody}
-use Rattle.book.specs.Book.{SameName}
 use Rattle.reader.specs.File.{Content, nothingYet, bodyLiterals, withLine, maxBytes, linesOf}
 
 -- ---- names and literals
 
+-- a small letter or a capital
 abbrev pub LetterByte : ℕ → Type 0
-LetterByte b = (97 ≤ b) × (b ≤ 122)
+LetterByte b = ((97 ≤ b) × (b ≤ 122)) ⊎ ((65 ≤ b) × (b ≤ 90))
 
 abbrev pub NameByte : ℕ → Type 0
 NameByte b = LetterByte b ⊎ ((48 ≤ b) × (b ≤ 57)) ⊎ (b ≡ 95)
@@ -83,7 +84,7 @@ FormWrong fs =
 
 -- one of the names declared before is the same name as n
 abbrev pub Declared : List (List ℕ) → List ℕ → Type 0
-Declared names n = (m : List ℕ) × (m isIn names) × SameName m n
+Declared names n = (m : List ℕ) × (m isIn names) × SameName EitherCase m n
 
 -- 6: a name declared before
 abbrev pub NameTaken : Content → List (List ℕ) → Type 0
@@ -145,12 +146,12 @@ FreeOf stop ps = (p : List ℕ) → p isIn ps → stop isIn p → ⊥
 -- what the lines say after d
 abbrev pub saidBy : Content → List (List ℕ) → Content
 saidBy d [] = d
-saidBy d (line ∷ lines) = saidBy (withLine d (fields line)) lines
+saidBy d (line ∷ lines) = saidBy (withLine EitherCase d (fields line)) lines
 
 -- none of the lines is faulty after d and the lines before it
 abbrev pub NoFaults : Content → List (List ℕ) → Type 0
 NoFaults d [] = Unit
-NoFaults d (line ∷ lines) = None (fieldRows d (fields line)) × NoFaults (withLine d (fields line)) lines
+NoFaults d (line ∷ lines) = None (fieldRows d (fields line)) × NoFaults (withLine EitherCase d (fields line)) lines
 
 -- Lines are judged up to line `at`: none of 1 to 3 is met, the lines before it are not faulty and say d, and it has the fields fs.
 pub record Judged (file : List ℕ) (at : ℕ) (d : Content) (fs : List (List ℕ)) : Type 0 where

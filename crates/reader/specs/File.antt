@@ -7,6 +7,7 @@ use lib.Dec.{eqb, leb, ltb}
 use lib.ListN.{length, getD, take}
 use Rattle.wfsx.specs.Program.{Entry, positive, default, Rule}
 use Rattle.scan.specs.Text.{isText, allBytes, split, fields, isName, wordOf, tildes, minuses, nameOf, newline}
+use Rattle.scan.specs.declared.Alphabet.{Alphabet}
 use Rattle.scan.specs.declared.Word.{Word}
 use Rattle.scan.specs.declared.Word.the-variants.{Name, Rule as RuleWord, End, Unknown}
 use Rattle.book.specs.Limits.{maxNames, maxRules, maxEntries, maxBody}
@@ -35,8 +36,8 @@ unfoldable pub allFields : (List ℕ → Bool) → List (List ℕ) → Bool
 allFields f [] = true
 allFields f (x ∷ xs) = f x && allFields f xs
 
-abbrev pub isLiteral : List ℕ → Bool
-isLiteral f = isName (nameOf f)
+abbrev pub isLiteral : Alphabet → List ℕ → Bool
+isLiteral α f = isName α (nameOf f)
 
 abbrev pub hasTilde : List ℕ → Bool
 hasTilde f = eqb (tildes f) 1
@@ -46,12 +47,12 @@ isFound Nothing = false
 isFound (At i) = true
 
 -- a name that an earlier line declares
-abbrev pub declared : List (List ℕ) → List ℕ → Bool
-declared names n = isFound (find names n)
+abbrev pub declared : Alphabet → List (List ℕ) → List ℕ → Bool
+declared α names n = isFound (find α names n)
 
 -- a field whose name an earlier line declares
-abbrev pub isKnown : List (List ℕ) → List ℕ → Bool
-isKnown names f = declared names (nameOf f)
+abbrev pub isKnown : Alphabet → List (List ℕ) → List ℕ → Bool
+isKnown α names f = declared α names (nameOf f)
 
 -- ---- the conditions of the table, over the first field and the others
 
@@ -68,25 +69,25 @@ headTilde [] = false
 headTilde (h ∷ body) = hasTilde h
 
 -- 5: a malformed name or literal, or a head with `~`
-unfoldable pub malformed : Word → List (List ℕ) → Bool
-malformed Name others = not (allFields isName others)
-malformed RuleWord others = headTilde others || not (allFields isLiteral others)
-malformed End others = false
-malformed Unknown others = false
+unfoldable pub malformed : Alphabet → Word → List (List ℕ) → Bool
+malformed α Name others = not (allFields (isName α) others)
+malformed α RuleWord others = headTilde others || not (allFields (isLiteral α) others)
+malformed α End others = false
+malformed α Unknown others = false
 
 -- 6: a name declared before
-unfoldable pub declaredBefore : Content → Word → List (List ℕ) → Bool
-declaredBefore d Name others = not (allFields (λ n. not (declared (d .names) n)) others)
-declaredBefore d RuleWord others = false
-declaredBefore d End others = false
-declaredBefore d Unknown others = false
+unfoldable pub declaredBefore : Alphabet → Content → Word → List (List ℕ) → Bool
+declaredBefore α d Name others = not (allFields (λ n. not (declared α (d .names) n)) others)
+declaredBefore α d RuleWord others = false
+declaredBefore α d End others = false
+declaredBefore α d Unknown others = false
 
 -- 7: a rule uses an undeclared name
-unfoldable pub usesUndeclared : Content → Word → List (List ℕ) → Bool
-usesUndeclared d Name others = false
-usesUndeclared d RuleWord others = not (allFields (isKnown (d .names)) others)
-usesUndeclared d End others = false
-usesUndeclared d Unknown others = false
+unfoldable pub usesUndeclared : Alphabet → Content → Word → List (List ℕ) → Bool
+usesUndeclared α d Name others = false
+usesUndeclared α d RuleWord others = not (allFields (isKnown α (d .names)) others)
+usesUndeclared α d End others = false
+usesUndeclared α d Unknown others = false
 
 -- 8: one name, rule or body literal beyond the table
 unfoldable pub beyondTable : Content → Word → List (List ℕ) → Bool
@@ -102,19 +103,19 @@ abbrev pub _when_else_ : ℕ → Bool → ℕ → ℕ
 n when b else m = cond b n m
 
 -- the number under which a line is faulty, by the order 9, 4, 5, 6, 7, 8, or 0
-unfoldable pub faultOf : Content → Word → List (List ℕ) → ℕ
-faultOf d w others =
+unfoldable pub faultOf : Alphabet → Content → Word → List (List ℕ) → ℕ
+faultOf α d w others =
     9 when d .ended
     else 4 when wrongFields w others
-    else 5 when malformed w others
-    else 6 when declaredBefore d w others
-    else 7 when usesUndeclared d w others
+    else 5 when malformed α w others
+    else 6 when declaredBefore α d w others
+    else 7 when usesUndeclared α d w others
     else 8 when beyondTable d w others
     else 0
 
-unfoldable pub lineFault : Content → List (List ℕ) → ℕ
-lineFault d [] = 4
-lineFault d (first ∷ others) = faultOf d (wordOf first) others
+unfoldable pub lineFault : Alphabet → Content → List (List ℕ) → ℕ
+lineFault α d [] = 4
+lineFault α d (first ∷ others) = faultOf α d (wordOf first) others
 
 -- ---- what a line that is not faulty adds
 
@@ -123,25 +124,25 @@ numberIn Nothing = 0
 numberIn (At i) = i
 
 -- name n gives the objective literal 2n, and `-` gives 2n + 1
-unfoldable pub literalNumber : List (List ℕ) → List ℕ → ℕ
-literalNumber names f = 2 * numberIn (find names (nameOf f)) + minuses f
+unfoldable pub literalNumber : Alphabet → List (List ℕ) → List ℕ → ℕ
+literalNumber α names f = 2 * numberIn (find α names (nameOf f)) + minuses f
 
-unfoldable pub entryFrom : List (List ℕ) → List ℕ → Entry
-entryFrom names f = cond (hasTilde f) (default (literalNumber names f)) (positive (literalNumber names f))
+unfoldable pub entryFrom : Alphabet → List (List ℕ) → List ℕ → Entry
+entryFrom α names f = cond (hasTilde f) (default (literalNumber α names f)) (positive (literalNumber α names f))
 
-abbrev pub ruleFrom : List (List ℕ) → List (List ℕ) → List Rule
-ruleFrom names [] = []
-ruleFrom names (h ∷ body) = record { head = literalNumber names h; body = map (entryFrom names) body } ∷ []
+abbrev pub ruleFrom : Alphabet → List (List ℕ) → List (List ℕ) → List Rule
+ruleFrom α names [] = []
+ruleFrom α names (h ∷ body) = record { head = literalNumber α names h; body = map (entryFrom α names) body } ∷ []
 
-unfoldable pub extended : Content → Word → List (List ℕ) → Content
-extended d Name others = record { names = d .names ++ others; rules = d .rules; ended = d .ended }
-extended d RuleWord others = record { names = d .names; rules = d .rules ++ ruleFrom (d .names) others; ended = d .ended }
-extended d End others = record { names = d .names; rules = d .rules; ended = true }
-extended d Unknown others = d
+unfoldable pub extended : Alphabet → Content → Word → List (List ℕ) → Content
+extended α d Name others = record { names = d .names ++ others; rules = d .rules; ended = d .ended }
+extended α d RuleWord others = record { names = d .names; rules = d .rules ++ ruleFrom α (d .names) others; ended = d .ended }
+extended α d End others = record { names = d .names; rules = d .rules; ended = true }
+extended α d Unknown others = d
 
-unfoldable pub withLine : Content → List (List ℕ) → Content
-withLine d [] = d
-withLine d (first ∷ others) = extended d (wordOf first) others
+unfoldable pub withLine : Alphabet → Content → List (List ℕ) → Content
+withLine α d [] = d
+withLine α d (first ∷ others) = extended α d (wordOf first) others
 
 -- ---- the file
 
@@ -151,11 +152,11 @@ pub data Outcome : Type 0 where
   refused : ℕ → ℕ → Outcome
 
 -- the lines from line `at` on: the first faulty one decides, and where there is none `end` must have come
-unfoldable pub readLines : Content → ℕ → List (List ℕ) → Outcome
-readLines d at [] = cond (d .ended) (accepted (d .names) (d .rules)) (refused 9 at)
-readLines d at (line ∷ lines) =
-    let fault = lineFault d (fields line) in
-    let next = readLines (withLine d (fields line)) (at + 1) lines in
+unfoldable pub readLines : Alphabet → Content → ℕ → List (List ℕ) → Outcome
+readLines α d at [] = cond (d .ended) (accepted (d .names) (d .rules)) (refused 9 at)
+readLines α d at (line ∷ lines) =
+    let fault = lineFault α d (fields line) in
+    let next = readLines α (withLine α d (fields line)) (at + 1) lines in
     cond (eqb fault 0) next (refused fault at)
 
 abbrev pub maxBytes : ℕ
@@ -174,9 +175,9 @@ abbrev pub linesOf : List ℕ → List (List ℕ)
 linesOf file = cond (hasBytes file) (split newline (take (length file - 1) file)) []
 
 -- numbers 1 to 3 look at the whole file in this order, with line 0; a file of no bytes is accepted, without `end`
-unfoldable pub readFile : List ℕ → Outcome
-readFile file =
-    let lines = readLines nothingYet 1 (linesOf file) in
+unfoldable pub readFile : Alphabet → List ℕ → Outcome
+readFile α file =
+    let lines = readLines α nothingYet 1 (linesOf file) in
     cond (ltb maxBytes (length file)) (refused 1 0)
     (cond (not (allBytes isText file)) (refused 2 0)
     (cond (unended file) (refused 3 0)

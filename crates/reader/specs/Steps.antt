@@ -3,17 +3,19 @@
 use mathlib.Core.Path.{_≡_}
 use mathlib.Core.Bool.{Bool, true, false, cond}
 use mathlib.Core.List.{List, [], map}
-use Prim.Native.Nat.{ℕ, _+_, _*_, _≤_}
+use Prim.Native.Nat.{ℕ, _+_, _*_, _≤_, _<_}
 use lib.ListN.{length}
 use lib.Seq.{sets}
 use Rattle.wfsx.specs.Sets.{_isIn_}
 use Rattle.wfsx.specs.Program.{Rule}
 use Rattle.scan.specs.Text.{maxLength, tildes, minuses, nameOf}
 use Rattle.scan.specs.declared.Word.{Word}
+use Rattle.scan.specs.declared.Alphabet.the-variants.{EitherCase}
 use Rattle.book.specs.Limits.{maxNames, maxRules, maxEntries}
-use Rattle.book.specs.Book.{clamp, namesIn, find, codeOf, textTable, lengthTable, headTable, startTable, entryTable}
+use Rattle.book.specs.Book.{find, codeOf, textTable, lengthTable, headTable, startTable, entryTable}
 use Rattle.book.specs.declared.Found.{Found}
 use Rattle.book.specs.declared.Found.the-variants.{Nothing, At}
+use Rattle.keys.specs.Keyed.{Keyed}
 use Rattle.reader.specs.File.{Content, bodyLiterals, allFields, isKnown, faultOf, lineFault, entryFrom, extended, withLine, Outcome, accepted, refused}
 use Rattle.reader.specs.declared.Counts.{Counts}
 use Rattle.reader.specs.declared.LineAnswer.{LineAnswer}
@@ -48,9 +50,10 @@ pub record NameTable (names : List (List ℕ)) (text lengths : List ℕ) : Type 
   pub lengths-are : lengths ≡ lengthTable names
   pub short : (n : List ℕ) → n isIn names → length n ≤ maxLength
 
--- what a line is judged by
-pub record Holds (d : Content) (t : Counts) (text lengths : List ℕ) : Type 0 where
+-- what a line is judged by: the counts and the names' keys; the names themselves are stored for the book
+pub record Holds (d : Content) (t : Counts) (keys text lengths : List ℕ) : Type 0 where
   pub counted : Counted d t
+  pub keyed : Keyed (d .names) keys
   pub named : NameTable (d .names) text lengths
 
 -- the slices hold the rules
@@ -61,25 +64,27 @@ pub record Stored (rules : List Rule) (heads starts entries : List ℕ) : Type 0
 
 -- ---- the fields of a rule
 
--- the names that the tables have, whatever is in them
-abbrev pub tableNames : List ℕ → List ℕ → ℕ → List (List ℕ)
-tableNames text lengths count = namesIn text lengths (clamp maxNames count)
-
 -- a field's name looked up: its literal, and how many `~` stand before it
 abbrev pub knownBy : Found → ℕ → ℕ → Known
 knownBy Nothing tilde minus = Undeclared
 knownBy (At i) tilde minus = Entry (2 * i + minus) tilde
 
 unfoldable pub knownOf : List (List ℕ) → List ℕ → Known
-knownOf names f = knownBy (find names (nameOf f)) (tildes f) (minuses f)
+knownOf names f = knownBy (find EitherCase names (nameOf f)) (tildes f) (minuses f)
+
+-- A field's name looked up among `count` names. Whatever is in the table of keys, the literal and the mark are small; where it has the keys of the names,
+-- they are the field's.
+pub record KnownAmong (keys : List ℕ) (count : ℕ) (f : List ℕ) (r : Known) : Type 0 where
+  pub small : (l t : ℕ) → r ≡ Entry l t → (l < 2 * count) × (t ≤ 1)
+  pub known : (names : List (List ℕ)) → Keyed names keys → count ≡ length names → r ≡ knownOf names f
 
 -- the number that is stored for a field
 abbrev pub fieldCode : List (List ℕ) → List ℕ → ℕ
-fieldCode names f = codeOf (entryFrom names f)
+fieldCode names f = codeOf (entryFrom EitherCase names f)
 
 -- whether all names of the fields are declared, and where they are, the fields' numbers from `at` on
 pub record FieldsKnown (names fs : List (List ℕ)) (at : ℕ) (r : Bool) (entries entries′ : List ℕ) : Type 0 where
-  pub answer-is : r ≡ allFields (isKnown names) fs
+  pub answer-is : r ≡ allFields (isKnown EitherCase names) fs
   pub entries-are : r ≡ true → entries′ ≡ sets entries at (map (fieldCode names) fs)
 
 -- ---- a line
@@ -91,21 +96,21 @@ pub record Step : Type 0 where
   pub fault : ℕ
 
 abbrev pub lineStep : Content → List (List ℕ) → Step
-lineStep d fs = record { old = d; new = withLine d fs; fault = lineFault d fs }
+lineStep d fs = record { old = d; new = withLine EitherCase d fs; fault = lineFault EitherCase d fs }
 
 -- by its first word and its other fields
 abbrev pub wordStep : Content → Word → List (List ℕ) → Step
-wordStep d w others = record { old = d; new = extended d w others; fault = faultOf d w others }
+wordStep d w others = record { old = d; new = extended EitherCase d w others; fault = faultOf EitherCase d w others }
 
 -- the answer: the line's fault, or where that is 0 the counts of what the lines say with it
-abbrev pub Answered : Step → LineAnswer → List ℕ → List ℕ → Type 0
-Answered s (Fine t) text lengths = (s .fault ≡ 0) × Holds (s .new) t text lengths
-Answered s (Fault k) text lengths = (s .fault ≡ k) × (k ≡ 0 → ⊥)
+abbrev pub Answered : Step → LineAnswer → List ℕ → List ℕ → List ℕ → Type 0
+Answered s (Fine t) keys text lengths = (s .fault ≡ 0) × Holds (s .new) t keys text lengths
+Answered s (Fault k) keys text lengths = (s .fault ≡ k) × (k ≡ 0 → ⊥)
 
 -- Slices that held the rules hold them after a line without a fault. The answer is the same over slices of every length: over empty ones a line is judged
 -- and counted, and nothing is stored.
-pub record LineRead (s : Step) (r : LineAnswer) (text lengths heads starts entries heads′ starts′ entries′ : List ℕ) : Type 0 where
-  pub answer : Answered s r text lengths
+pub record LineRead (s : Step) (r : LineAnswer) (keys text lengths heads starts entries heads′ starts′ entries′ : List ℕ) : Type 0 where
+  pub answer : Answered s r keys text lengths
   pub stored : s .fault ≡ 0 → Stored (s .old .rules) heads starts entries → Stored (s .new .rules) heads′ starts′ entries′
 
 -- ---- a file
@@ -115,17 +120,17 @@ abbrev pub lastAnswer : Counts → ℕ → FileAnswer
 lastAnswer t line = cond (t .ended) (whole.Fine t) (whole.Fault 9 line)
 
 -- what an accepted file says, held and counted; slices that held no rules hold its rules
-pub record FineFile (o : Outcome) (t : Counts) (text lengths heads starts entries heads′ starts′ entries′ : List ℕ) : Type 0 where
+pub record FineFile (o : Outcome) (t : Counts) (keys text lengths heads starts entries heads′ starts′ entries′ : List ℕ) : Type 0 where
   pub content : Content
   pub outcome : o ≡ accepted (content .names) (content .rules)
-  pub held : Holds content t text lengths
+  pub held : Holds content t keys text lengths
   pub stored : Stored [] heads starts entries → Stored (content .rules) heads′ starts′ entries′
 
-abbrev pub FileAnswered : Outcome → FileAnswer → List ℕ → List ℕ → List ℕ → List ℕ → List ℕ → List ℕ → List ℕ → List ℕ → Type 0
-FileAnswered o (whole.Fine t) text lengths heads starts entries heads′ starts′ entries′ =
-    FineFile o t text lengths heads starts entries heads′ starts′ entries′
-FileAnswered o (whole.Fault number line) text lengths heads starts entries heads′ starts′ entries′ = o ≡ refused number line
+abbrev pub FileAnswered : Outcome → FileAnswer → List ℕ → List ℕ → List ℕ → List ℕ → List ℕ → List ℕ → List ℕ → List ℕ → List ℕ → Type 0
+FileAnswered o (whole.Fine t) keys text lengths heads starts entries heads′ starts′ entries′ =
+    FineFile o t keys text lengths heads starts entries heads′ starts′ entries′
+FileAnswered o (whole.Fault number line) keys text lengths heads starts entries heads′ starts′ entries′ = o ≡ refused number line
 
 -- As for a line, the answer is the same over rules' slices of every length.
-pub record FileRead (o : Outcome) (r : FileAnswer) (text lengths heads starts entries heads′ starts′ entries′ : List ℕ) : Type 0 where
-  pub answer : FileAnswered o r text lengths heads starts entries heads′ starts′ entries′
+pub record FileRead (o : Outcome) (r : FileAnswer) (keys text lengths heads starts entries heads′ starts′ entries′ : List ℕ) : Type 0 where
+  pub answer : FileAnswered o r keys text lengths heads starts entries heads′ starts′ entries′

@@ -6,13 +6,16 @@ ghost use Prim.Native.Nat.{ℕ, _+_, _≤_};
 ghost use lib.ListN.{length};
 ghost use Rattle.scan.specs.Text.{newline, comma, split, rest, fields};
 ghost use Rattle.scan.specs.declared.Word.the-variants.{Name, Rule as RuleWord};
-ghost use Rattle.book.specs.Limits.{maxEntries, maxBody};
+ghost use Rattle.scan.specs.declared.Alphabet.the-variants.{EitherCase};
+ghost use Rattle.book.specs.Limits.{maxNames, maxEntries, maxBody};
+ghost use Rattle.keys.specs.Keyed.{Keyed};
 ghost use Rattle.reader.specs.File.{Content, nothingYet, allFields, isLiteral, wrongFields, malformed, accepted, refused, readLines, readFile};
 ghost use Rattle.reader.specs.Loading.{loadedOf};
 ghost use Rattle.reader.specs.Sizing.{sizeOf};
-ghost use Rattle.reader.specs.Steps.{noCounts, Fits, Holds, Stored, tableNames, knownOf, FieldsKnown, lineStep, wordStep, Answered, LineRead, lastAnswer, FileRead};
+ghost use Rattle.reader.specs.Steps.{noCounts, Fits, Holds, Stored, KnownAmong, FieldsKnown, lineStep, wordStep, Answered, LineRead, lastAnswer, FileRead};
 use book::Book;
 use book::Found;
+use scan::Alphabet;
 use scan::Form;
 use scan::Word;
 
@@ -42,21 +45,30 @@ enum FileAnswer {
 // ---- a name's line
 
 // The line that declares `name`.
-fn name_line(t: Counts, text: &mut [u8], lengths: &mut [u8], name: &[u8]) -> LineAnswer
+fn name_line(
+    t: Counts,
+    keys: &mut [u64],
+    hints: &mut [u8],
+    text: &mut [u8],
+    lengths: &mut [u8],
+    name: &[u8],
+) -> LineAnswer
     requires { ⌜ Fits t × (t .ended ≡ false) ⌝ }
-    ensures { λ r. ⌜ ((d : Content) → Holds d t (now (text .entry)) (now (lengths .entry))
-        → Answered (wordStep d Name (now (name .entry) ∷ [])) r (now (text .exit)) (now (lengths .exit))) ⌝ }
+    ensures { λ r. ⌜ ((d : Content) → Holds d t (now (keys .entry)) (now (text .entry)) (now (lengths .entry))
+        → Answered (wordStep d Name (now (name .entry) ∷ [])) r (now (keys .exit)) (now (text .exit)) (now (lengths .exit))) ⌝ }
 {
     if !scan::is_name(name) {
         return LineAnswer::Fault(5);
     }
     let count = t.names;
-    let Found::Nothing = book::find_in(text, lengths, count, name) else {
+    let key = scan::key_of(name, Alphabet::EitherCase);
+    let Found::Nothing = keys::find(keys, hints, count, key) else {
         return LineAnswer::Fault(6);
     };
     if book::MAX_NAMES <= count {
         return LineAnswer::Fault(8);
     }
+    keys::put(keys, hints, count, key);
     store::put_all(text, scan::MAX_LENGTH * count, name);
     store::put8(lengths, count, name.len() as u8);
     LineAnswer::Fine(Counts {
@@ -70,7 +82,7 @@ fn name_line(t: Counts, text: &mut [u8], lengths: &mut [u8], name: &[u8]) -> Lin
 // Whether every field from place `from` on reads as a literal.
 fn all_literals(line: &[u8], from: usize) -> bool
     requires { ⌜ from ≤ length (now line) + 1 ⌝ }
-    ensures { λ r. ⌜ r ≡ allFields isLiteral (rest comma (now (line .entry)) from) ⌝ }
+    ensures { λ r. ⌜ r ≡ allFields (isLiteral EitherCase) (rest comma (now (line .entry)) from) ⌝ }
 {
     let mut p = from;
     while p <= line.len() {
@@ -89,7 +101,7 @@ fn all_literals(line: &[u8], from: usize) -> bool
 
 // Whether the head and every field behind it reads as a literal, and the head has no `~`.
 fn well_formed(rule: &[u8]) -> bool
-    ensures { λ r. ⌜ r ≡ not (malformed RuleWord (fields (now (rule .entry)))) ⌝ }
+    ensures { λ r. ⌜ r ≡ not (malformed EitherCase RuleWord (fields (now (rule .entry)))) ⌝ }
 {
     let e = scan::end_of(rule, 0, b',');
     let Form::Literal { tildes, minuses: _ } = scan::form_of(&rule[0..e]) else {
@@ -107,12 +119,14 @@ enum Known {
     Entry { literal: usize, tildes: usize },
 }
 
-fn known_of(text: &[u8], lengths: &[u8], count: usize, f: &[u8]) -> Known
-    ensures { λ r. ⌜ r ≡ knownOf (tableNames (now (text .entry)) (now (lengths .entry)) count) (now (f .entry)) ⌝ }
+fn known_of(keys: &[u64], hints: &[u8], count: usize, f: &[u8]) -> Known
+    requires { ⌜ count ≤ maxNames ⌝ }
+    ensures { λ r. ⌜ KnownAmong (now (keys .entry)) count (now (f .entry)) r ⌝ }
 {
     let m = scan::marks_of(f);
     let from = m.tildes + m.minuses;
-    let Found::At(i) = book::find_in(text, lengths, count, &f[from..]) else {
+    let key = scan::key_of(&f[from..], Alphabet::EitherCase);
+    let Found::At(i) = keys::find(keys, hints, count, key) else {
         return Known::Undeclared;
     };
     Known::Entry {
@@ -123,23 +137,23 @@ fn known_of(text: &[u8], lengths: &[u8], count: usize, f: &[u8]) -> Known
 
 // Whether every field from place `from` on has a declared name. Then their entries stand from `at` on.
 fn all_known(
-    text: &[u8],
-    lengths: &[u8],
+    keys: &[u64],
+    hints: &[u8],
     count: usize,
     entries: &mut [u16],
     at: usize,
     line: &[u8],
     from: usize,
 ) -> bool
-    requires { ⌜ (from ≤ length (now line) + 1) × (at ≤ maxEntries) ⌝ }
-    ensures { λ r. ⌜ FieldsKnown (tableNames (now (text .entry)) (now (lengths .entry)) count) (rest comma (now (line .entry)) from)
-        at r (now (entries .entry)) (now (entries .exit)) ⌝ }
+    requires { ⌜ (count ≤ maxNames) × (from ≤ length (now line) + 1) × (at ≤ maxEntries) ⌝ }
+    ensures { λ r. ⌜ ((names : List (List ℕ)) → Keyed names (now (keys .entry)) → count ≡ length names
+        → FieldsKnown names (rest comma (now (line .entry)) from) at r (now (entries .entry)) (now (entries .exit))) ⌝ }
 {
     let mut k = at;
     let mut p = from;
     while p <= line.len() {
         let e = scan::end_of(line, p, b',');
-        let Known::Entry { literal, tildes } = known_of(text, lengths, count, &line[p..e]) else {
+        let Known::Entry { literal, tildes } = known_of(keys, hints, count, &line[p..e]) else {
             return false;
         };
         store::put16(entries, k, (2 * literal + tildes) as u16);
@@ -152,8 +166,8 @@ fn all_known(
 // The line whose fields after the first are a head and n body literals.
 fn rule_line(
     t: Counts,
-    text: &[u8],
-    lengths: &[u8],
+    keys: &[u64],
+    hints: &[u8],
     heads: &mut [u16],
     starts: &mut [u16],
     entries: &mut [u16],
@@ -161,18 +175,18 @@ fn rule_line(
     n: usize,
 ) -> LineAnswer
     requires { ⌜ Fits t × (t .ended ≡ false) × (n ≤ maxBody) × (n + 1 ≡ length (fields (now rule))) ⌝ }
-    ensures { λ r. ⌜ ((d : Content) → Holds d t (now (text .entry)) (now (lengths .entry))
-        → LineRead (wordStep d RuleWord (fields (now (rule .entry)))) r (now (text .entry)) (now (lengths .entry))
+    ensures { λ r. ⌜ ((d : Content) (text lengths : List ℕ) → Holds d t (now (keys .entry)) text lengths
+        → LineRead (wordStep d RuleWord (fields (now (rule .entry)))) r (now (keys .entry)) text lengths
         (now (heads .entry)) (now (starts .entry)) (now (entries .entry)) (now (heads .exit)) (now (starts .exit)) (now (entries .exit))) ⌝ }
 {
     if !well_formed(rule) {
         return LineAnswer::Fault(5);
     }
     let e = scan::end_of(rule, 0, b',');
-    let Known::Entry { literal, tildes: _ } = known_of(text, lengths, t.names, &rule[0..e]) else {
+    let Known::Entry { literal, tildes: _ } = known_of(keys, hints, t.names, &rule[0..e]) else {
         return LineAnswer::Fault(7);
     };
-    if !all_known(text, lengths, t.names, entries, t.used, rule, e + 1) {
+    if !all_known(keys, hints, t.names, entries, t.used, rule, e + 1) {
         return LineAnswer::Fault(7);
     }
     let rules = t.rules;
@@ -206,6 +220,8 @@ fn right_count(word: Word, n: usize) -> bool
 // A line behind those that have been read.
 fn judge(
     t: Counts,
+    keys: &mut [u64],
+    hints: &mut [u8],
     text: &mut [u8],
     lengths: &mut [u8],
     heads: &mut [u16],
@@ -214,8 +230,8 @@ fn judge(
     line: &[u8],
 ) -> LineAnswer
     requires { ⌜ Fits t ⌝ }
-    ensures { λ r. ⌜ ((d : Content) → Holds d t (now (text .entry)) (now (lengths .entry))
-        → LineRead (lineStep d (fields (now (line .entry)))) r (now (text .exit)) (now (lengths .exit))
+    ensures { λ r. ⌜ ((d : Content) → Holds d t (now (keys .entry)) (now (text .entry)) (now (lengths .entry))
+        → LineRead (lineStep d (fields (now (line .entry)))) r (now (keys .exit)) (now (text .exit)) (now (lengths .exit))
         (now (heads .entry)) (now (starts .entry)) (now (entries .entry)) (now (heads .exit)) (now (starts .exit)) (now (entries .exit))) ⌝ }
 {
     if t.ended {
@@ -228,10 +244,10 @@ fn judge(
         return LineAnswer::Fault(4);
     }
     match word {
-        Word::Name => name_line(t, text, lengths, &line[e + 1..]),
+        Word::Name => name_line(t, keys, hints, text, lengths, &line[e + 1..]),
         Word::Rule => {
             let rule = &line[e + 1..];
-            rule_line(t, text, lengths, heads, starts, entries, rule, n - 2)
+            rule_line(t, keys, hints, heads, starts, entries, rule, n - 2)
         }
         Word::End => LineAnswer::Fine(Counts { ended: true, ..t }),
         // No count of fields is right for it.
@@ -264,14 +280,16 @@ fn last_answer(t: Counts, line: usize) -> FileAnswer
 // The lines of b, which is the file without its last byte.
 fn read_lines(
     b: &[u8],
+    keys: &mut [u64],
+    hints: &mut [u8],
     text: &mut [u8],
     lengths: &mut [u8],
     heads: &mut [u16],
     starts: &mut [u16],
     entries: &mut [u16],
 ) -> FileAnswer
-    requires { ⌜ Holds nothingYet noCounts (now text) (now lengths) ⌝ }
-    ensures { λ r. ⌜ FileRead (readLines nothingYet 1 (split newline (now (b .entry)))) r (now (text .exit)) (now (lengths .exit))
+    requires { ⌜ Holds nothingYet noCounts (now keys) (now text) (now lengths) ⌝ }
+    ensures { λ r. ⌜ FileRead (readLines EitherCase nothingYet 1 (split newline (now (b .entry)))) r (now (keys .exit)) (now (text .exit)) (now (lengths .exit))
         (now (heads .entry)) (now (starts .entry)) (now (entries .entry)) (now (heads .exit)) (now (starts .exit)) (now (entries .exit)) ⌝ }
 {
     let mut t = none_yet();
@@ -279,7 +297,17 @@ fn read_lines(
     let mut number = 1;
     while at <= b.len() {
         let e = scan::end_of(b, at, b'\n');
-        match judge(t, text, lengths, heads, starts, entries, &b[at..e]) {
+        match judge(
+            t,
+            keys,
+            hints,
+            text,
+            lengths,
+            heads,
+            starts,
+            entries,
+            &b[at..e],
+        ) {
             LineAnswer::Fine(u) => {
                 t = u;
             }
@@ -299,14 +327,16 @@ fn read_lines(
 // The file, into the tables that are lent for it: a rule that lies past them is judged and counted, and not stored.
 fn read_file(
     file: &[u8],
+    keys: &mut [u64],
+    hints: &mut [u8],
     text: &mut [u8],
     lengths: &mut [u8],
     heads: &mut [u16],
     starts: &mut [u16],
     entries: &mut [u16],
 ) -> FileAnswer
-    requires { ⌜ Holds nothingYet noCounts (now text) (now lengths) ⌝ }
-    ensures { λ r. ⌜ FileRead (readFile (now (file .entry))) r (now (text .exit)) (now (lengths .exit))
+    requires { ⌜ Holds nothingYet noCounts (now keys) (now text) (now lengths) ⌝ }
+    ensures { λ r. ⌜ FileRead (readFile EitherCase (now (file .entry))) r (now (keys .exit)) (now (text .exit)) (now (lengths .exit))
         (now (heads .entry)) (now (starts .entry)) (now (entries .entry)) (now (heads .exit)) (now (starts .exit)) (now (entries .exit)) ⌝ }
 {
     let n = file.len();
@@ -323,7 +353,16 @@ fn read_file(
     if file[n - 1] != b'\n' {
         return FileAnswer::Fault { number: 3, line: 0 };
     }
-    read_lines(&file[0..n - 1], text, lengths, heads, starts, entries)
+    read_lines(
+        &file[0..n - 1],
+        keys,
+        hints,
+        text,
+        lengths,
+        heads,
+        starts,
+        entries,
+    )
 }
 
 // ---- loading
@@ -357,7 +396,7 @@ fn accepted_with(
     starts: [u16; book::MAX_STARTS],
     entries: [u16; book::MAX_ENTRIES],
 ) -> Loaded
-    ensures { λ r. ⌜ ((d : Content) → Holds d t text lengths → Stored (d .rules) heads starts entries
+    ensures { λ r. ⌜ ((d : Content) (keys : List ℕ) → Holds d t keys text lengths → Stored (d .rules) heads starts entries
         → r ≡ loadedOf (accepted (d .names) (d .rules))) ⌝ }
 {
     Loaded {
@@ -375,8 +414,10 @@ fn accepted_with(
 }
 
 pub fn read(file: &[u8]) -> Loaded
-    ensures { λ r. ⌜ r ≡ loadedOf (readFile (now (file .entry))) ⌝ }
+    ensures { λ r. ⌜ r ≡ loadedOf (readFile EitherCase (now (file .entry))) ⌝ }
 {
+    let mut keys = [0u64; keys::MAX_KEYS];
+    let mut hints = [0u8; keys::MAX_HINTS];
     let mut text = [0u8; book::MAX_TEXT];
     let mut lengths = [0u8; book::MAX_NAMES];
     let mut heads = [0u16; book::MAX_RULES];
@@ -384,6 +425,8 @@ pub fn read(file: &[u8]) -> Loaded
     let mut entries = [0u16; book::MAX_ENTRIES];
     match read_file(
         file,
+        &mut keys,
+        &mut hints,
         &mut text,
         &mut lengths,
         &mut heads,
@@ -413,11 +456,22 @@ pub enum SizeAnswer {
 // How much of each table a file fills, with no book stored: it is read as for loading, over slices that have no room for a rule. The names are kept,
 // since 6 and 7 look them up.
 pub fn size(file: &[u8]) -> SizeAnswer
-    ensures { λ r. ⌜ r ≡ sizeOf (readFile (now (file .entry))) ⌝ }
+    ensures { λ r. ⌜ r ≡ sizeOf (readFile EitherCase (now (file .entry))) ⌝ }
 {
+    let mut keys = [0u64; keys::MAX_KEYS];
+    let mut hints = [0u8; keys::MAX_HINTS];
     let mut text = [0u8; book::MAX_TEXT];
     let mut lengths = [0u8; book::MAX_NAMES];
-    match read_file(file, &mut text, &mut lengths, &mut [], &mut [], &mut []) {
+    match read_file(
+        file,
+        &mut keys,
+        &mut hints,
+        &mut text,
+        &mut lengths,
+        &mut [],
+        &mut [],
+        &mut [],
+    ) {
         FileAnswer::Fine(t) => SizeAnswer::Accepted {
             names: t.names,
             rules: t.rules,

@@ -10,6 +10,7 @@ use lib.Seq.{take-all, drop-drop}
 use lib.Dec.{eqb}
 use borrow.Author.Tests.{eq-eqb, ne-eqb}
 use Rattle.scan.specs.Text.{isName, lead, tildes, minuses, nameOf, formOf}
+use Rattle.scan.specs.declared.Alphabet.{Alphabet}
 use Rattle.scan.specs.declared.Form.the-variants.{Malformed, Literal}
 use Rattle.scan.proofs.Places.{left-at}
 
@@ -41,35 +42,36 @@ module _ (f : List ℕ) (a b : ℕ) (ea : a ≡ tildes f) (eb : b ≡ minuses f)
       drop-drop (minuses f) (tildes f) f ∙ ap₂ (λ (x y : ℕ). drop (x + y) f) (sym ea) (sym eb)
       ∙ sym (take-all (length f - (a + b)) (drop (a + b) f) (omega (arith, length-drop (a + b) f)))
 
-  pub form-malformed : isName (take (length f - (a + b)) (drop (a + b) f)) ≡ false → formOf f ≡ Malformed
-  unfolding formOf
-  form-malformed h = rw (ap isName name-from ∙ h)
+  module _ (α : Alphabet) where
+    pub form-malformed : isName α (take (length f - (a + b)) (drop (a + b) f)) ≡ false → formOf α f ≡ Malformed
+    unfolding formOf
+    form-malformed h = rw (ap (isName α) name-from ∙ h)
 
-  pub form-literal : isName (take (length f - (a + b)) (drop (a + b) f)) ≡ true → formOf f ≡ Literal a b
-  unfolding formOf
-  form-literal h = rw (ap isName name-from ∙ h) (ap₂ Literal (sym ea) (sym eb))
+    pub form-literal : isName α (take (length f - (a + b)) (drop (a + b) f)) ≡ true → formOf α f ≡ Literal a b
+    unfolding formOf
+    form-literal h = rw (ap (isName α) name-from ∙ h) (ap₂ Literal (sym ea) (sym eb))
 
 -- ---- the name and the `~` by the form
 
-module _ (f : List ℕ) where
-  pub malformed-form : formOf f ≡ Malformed → isName (nameOf f) ≡ false
+module _ (α : Alphabet) (f : List ℕ) where
+  pub malformed-form : formOf α f ≡ Malformed → isName α (nameOf f) ≡ false
   unfolding formOf
-  malformed-form = go (isName (nameOf f))
+  malformed-form = go (isName α (nameOf f))
     where
       go : (t : Bool) → cond t (Literal (tildes f) (minuses f)) Malformed ≡ Malformed → t ≡ false
       go true e = cc
       go false e = refl
 
-  module _ (a b : ℕ) (e : formOf f ≡ Literal a b) where
-    parts : (isName (nameOf f) ≡ true) × (tildes f ≡ a)
+  module _ (a b : ℕ) (e : formOf α f ≡ Literal a b) where
+    parts : (isName α (nameOf f) ≡ true) × (tildes f ≡ a)
     unfolding formOf
-    parts = go (isName (nameOf f)) e
+    parts = go (isName α (nameOf f)) e
       where
         go : (t : Bool) → cond t (Literal (tildes f) (minuses f)) Malformed ≡ Literal a b → (t ≡ true) × (tildes f ≡ a)
         go true q = (refl, cc)
         go false q = (cc, cc)
 
-    pub literal-form : isName (nameOf f) ≡ true
+    pub literal-form : isName α (nameOf f) ≡ true
     literal-form = parts .0
 
     pub form-tildes : tildes f ≡ a

@@ -1,11 +1,15 @@
 -- The text of a marking file: lines and fields, names, the first word of a line, and the form of a literal (document 01, "The marking file").
+use mathlib.Core.Path.{_≡_}
 use mathlib.Core.Bool.{Bool, true, false, cond, _&&_, _||_}
-use mathlib.Core.List.{List, [], _∷_}
-use Prim.Native.Nat.{ℕ, suc}
+use mathlib.Core.List.{List, [], _∷_, map}
+use Prim.Native.Nat.{ℕ, suc, _+_, _*_, _<_}
 use lib.Dec.{eqb, leb}
-use lib.ListN.{length, drop}
+use lib.ListN.{length, take, drop, getD}
 use Rattle.scan.specs.declared.Class.{Class}
-use Rattle.scan.specs.declared.Class.the-variants.{Letter, Digit, Underscore, Other}
+use Rattle.scan.specs.declared.Class.the-variants.{Letter, Capital, Digit, Underscore, Other}
+use Rattle.scan.specs.declared.Alphabet.{Alphabet}
+use Rattle.scan.specs.declared.Alphabet.the-variants.{SmallOnly, EitherCase}
+use Rattle.scan.specs.declared.Key.{Key}
 use Rattle.scan.specs.declared.Word.{Word}
 use Rattle.scan.specs.declared.Word.the-variants.{Name, Rule, End, Unknown}
 use Rattle.scan.specs.declared.Form.{Form}
@@ -25,22 +29,17 @@ comma = 44
 abbrev pub isText : ℕ → Bool
 isText b = eqb b newline || (leb 32 b && leb b 126)
 
--- the class of a byte: a lower-case letter (97 to 122), a digit (48 to 57), an underscore (95), or another
+abbrev pub isCapital : ℕ → Bool
+isCapital b = leb 65 b && leb b 90
+
+-- the class of a byte: a small letter (97 to 122), a capital (65 to 90), a digit (48 to 57), an underscore (95), or another
 abbrev pub classOf : ℕ → Class
-classOf b = cond (leb 97 b && leb b 122) Letter (cond (leb 48 b && leb b 57) Digit (cond (eqb b 95) Underscore Other))
-
-abbrev pub isLetter : Class → Bool
-isLetter Letter = true
-isLetter Digit = false
-isLetter Underscore = false
-isLetter Other = false
-
--- whether a name may have the byte
-abbrev pub inName : Class → Bool
-inName Letter = true
-inName Digit = true
-inName Underscore = true
-inName Other = false
+classOf b =
+    cond (leb 97 b && leb b 122) Letter
+    (cond (isCapital b) Capital
+    (cond (leb 48 b && leb b 57) Digit
+    (cond (eqb b 95) Underscore
+    Other)))
 
 -- every byte passes the test
 unfoldable pub allBytes : (ℕ → Bool) → List ℕ → Bool
@@ -71,24 +70,92 @@ rest stop l p = cond (leb p (length l)) (split stop (drop p l)) []
 abbrev pub fields : List ℕ → List (List ℕ)
 fields line = split comma line
 
--- ---- names
-
--- the most bytes of a NAME; `src/lib.rt` has the same number
-abbrev pub maxLength : ℕ
-maxLength = 16
-
--- a NAME has 1 to 16 bytes, of which the first is a letter
-unfoldable pub isName : List ℕ → Bool
-isName [] = false
-isName (x ∷ xs) = leb (suc (length xs)) maxLength && (isLetter (classOf x) && allBytes (λ b. inName (classOf b)) xs)
-
--- ---- the first field
+-- ---- the same bytes
 
 unfoldable pub sameBytes : List ℕ → List ℕ → Bool
 sameBytes [] [] = true
 sameBytes [] (y ∷ ys) = false
 sameBytes (x ∷ xs) [] = false
 sameBytes (x ∷ xs) (y ∷ ys) = eqb x y && sameBytes xs ys
+
+-- ---- names
+
+-- the most bytes of a NAME; `src/lib.rt` has the same number
+abbrev pub maxLength : ℕ
+maxLength = 16
+
+-- The alphabet says which bytes a name may have, and when two names are the same. `SmallOnly` is document 01's: the letters are the small ones, and each
+-- byte counts as itself. `EitherCase` is document 02's, A.2: capitals are letters too, and count as small ones.
+
+abbrev pub isLetter : Alphabet → Class → Bool
+isLetter α Letter = true
+isLetter SmallOnly Capital = false
+isLetter EitherCase Capital = true
+isLetter α Digit = false
+isLetter α Underscore = false
+isLetter α Other = false
+
+-- a capital made small
+abbrev pub small : ℕ → ℕ
+small b = cond (isCapital b) (b + 32) b
+
+abbrev pub countsAs : Alphabet → ℕ → ℕ
+countsAs SmallOnly b = b
+countsAs EitherCase b = small b
+
+-- whether a name may have the byte
+abbrev pub inName : Alphabet → Class → Bool
+inName α Letter = isLetter α Letter
+inName α Capital = isLetter α Capital
+inName α Digit = true
+inName α Underscore = true
+inName α Other = false
+
+-- a NAME has 1 to 16 bytes, of which the first is a letter
+unfoldable pub isName : Alphabet → List ℕ → Bool
+isName α [] = false
+isName α (x ∷ xs) = leb (suc (length xs)) maxLength && (isLetter α (classOf x) && allBytes (λ b. inName α (classOf b)) xs)
+
+-- the bytes that a name counts as
+abbrev pub folded : Alphabet → List ℕ → List ℕ
+folded α n = map (countsAs α) n
+
+-- two names are the same: refusals 6 and 7 go by this, and every look-up by its test
+unfoldable pub SameName : Alphabet → List ℕ → List ℕ → Type 0
+SameName α a b = folded α a ≡ folded α b
+
+-- `proofs/Names.antt` shows that the test decides it
+unfoldable pub sameName : Alphabet → List ℕ → List ℕ → Bool
+sameName α a b = sameBytes (folded α a) (folded α b)
+
+-- ---- keys
+
+-- bytes as the digits of a number in base 256, behind the digits of w
+unfoldable pub digitsOf : ℕ → List ℕ → ℕ
+digitsOf w [] = w
+digitsOf w (b ∷ bs) = digitsOf (256 * w + b) bs
+
+-- how many bytes a word of a key has
+abbrev pub inWord : ℕ
+inWord = 8
+
+-- every element is a byte, so that digits in base 256 tell two such lists apart
+abbrev pub Bytes : List ℕ → Type 0
+Bytes s = (i : ℕ) → getD s i 0 < 256
+
+-- the bytes of one word, from place `from` on
+abbrev pub wordFrom : Alphabet → ℕ → List ℕ → ℕ
+wordFrom α from s = digitsOf 0 (folded α (take inWord (drop from s)))
+
+-- The key of some bytes: how many there are, and the first 16 of them as they count, in two words. `proofs/Keys.antt` shows that two names are the
+-- same exactly where their keys are.
+abbrev pub keyOf : Alphabet → List ℕ → Key
+keyOf α s = record { length = length s; first = wordFrom α 0 s; second = wordFrom α inWord s }
+
+abbrev pub sameKey : Key → Key → Bool
+sameKey a b = eqb (a .length) (b .length) && (eqb (a .first) (b .first) && eqb (a .second) (b .second))
+
+-- ---- the first field
 
 -- the bytes of `name`, `rule` and `end`
 abbrev pub nameWord : List ℕ
@@ -123,5 +190,5 @@ abbrev pub nameOf : List ℕ → List ℕ
 nameOf f = drop (minuses f) (drop (tildes f) f)
 
 -- a field reads as a literal or is malformed
-unfoldable pub formOf : List ℕ → Form
-formOf f = cond (isName (nameOf f)) (Literal (tildes f) (minuses f)) Malformed
+unfoldable pub formOf : Alphabet → List ℕ → Form
+formOf α f = cond (isName α (nameOf f)) (Literal (tildes f) (minuses f)) Malformed

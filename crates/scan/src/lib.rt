@@ -2,7 +2,8 @@
 ghost use mathlib.Core.Path.{_≡_};
 ghost use Prim.Native.Nat.{_+_, _≤_};
 ghost use lib.ListN.{length, drop};
-ghost use Rattle.scan.specs.Text.{isText, classOf, isLetter, inName, allBytes, split, lenTo, isName, sameBytes, wordOf, lead, tildes, minuses, formOf};
+ghost use Rattle.scan.specs.Text.{isText, classOf, isLetter, countsAs, inName, allBytes, split, lenTo, maxLength, isName, sameBytes, inWord, Bytes, wordFrom, keyOf, sameKey, wordOf, lead, tildes, minuses, formOf};
+ghost use Rattle.scan.specs.declared.Alphabet.the-variants.{EitherCase};
 
 // The most bytes of a name; `maxLength` in specs/Text.antt is the same number.
 pub const MAX_LENGTH: usize = 16;
@@ -10,6 +11,7 @@ pub const MAX_LENGTH: usize = 16;
 // What a byte may be in a name.
 pub enum Class {
     Letter,
+    Capital,
     Digit,
     Underscore,
     Other,
@@ -20,6 +22,7 @@ fn class_of(b: u8) -> Class
 {
     match b {
         b'a'..=b'z' => Class::Letter,
+        b'A'..=b'Z' => Class::Capital,
         b'0'..=b'9' => Class::Digit,
         b'_' => Class::Underscore,
         _ => Class::Other,
@@ -27,10 +30,11 @@ fn class_of(b: u8) -> Class
 }
 
 fn is_letter(c: Class) -> bool
-    ensures { λ r. ⌜ r ≡ isLetter c ⌝ }
+    ensures { λ r. ⌜ r ≡ isLetter EitherCase c ⌝ }
 {
     match c {
         Class::Letter => true,
+        Class::Capital => true,
         Class::Digit => false,
         Class::Underscore => false,
         Class::Other => false,
@@ -38,10 +42,11 @@ fn is_letter(c: Class) -> bool
 }
 
 fn in_name(c: Class) -> bool
-    ensures { λ r. ⌜ r ≡ inName c ⌝ }
+    ensures { λ r. ⌜ r ≡ inName EitherCase c ⌝ }
 {
     match c {
         Class::Letter => true,
+        Class::Capital => true,
         Class::Digit => true,
         Class::Underscore => true,
         Class::Other => false,
@@ -49,7 +54,7 @@ fn in_name(c: Class) -> bool
 }
 
 fn all_in_name(s: &[u8]) -> bool
-    ensures { λ r. ⌜ r ≡ allBytes (λ b. inName (classOf b)) (now (s .entry)) ⌝ }
+    ensures { λ r. ⌜ r ≡ allBytes (λ b. inName EitherCase (classOf b)) (now (s .entry)) ⌝ }
 {
     let mut i = 0;
     while i < s.len() {
@@ -62,7 +67,7 @@ fn all_in_name(s: &[u8]) -> bool
 }
 
 pub fn is_name(s: &[u8]) -> bool
-    ensures { λ r. ⌜ r ≡ isName (now (s .entry)) ⌝ }
+    ensures { λ r. ⌜ r ≡ isName EitherCase (now (s .entry)) ⌝ }
 {
     if s.len() == 0 {
         return false;
@@ -130,10 +135,96 @@ pub fn pieces(s: &[u8], stop: u8) -> usize
     n + 1
 }
 
-pub fn same_bytes(a: &[u8], b: &[u8]) -> bool
-    ensures { λ r. ⌜ r ≡ sameBytes (now (a .entry)) (now (b .entry)) ⌝ }
+// ---- keys: names are compared by them
+
+// How letters count where bytes are compared: as they are spelled, as in the first field of a line, or capitals as small letters, as in a name.
+pub enum Alphabet {
+    SmallOnly,
+    EitherCase,
+}
+
+fn small(b: u8) -> u8
+    ensures { λ r. ⌜ r ≡ countsAs EitherCase b ⌝ }
 {
-    check::same(a, b)
+    match b {
+        b'A'..=b'Z' => b + 32,
+        _ => b,
+    }
+}
+
+fn counts_as(b: u8, alphabet: Alphabet) -> u8
+    ensures { λ r. ⌜ r ≡ countsAs alphabet b ⌝ }
+{
+    match alphabet {
+        Alphabet::SmallOnly => b,
+        Alphabet::EitherCase => small(b),
+    }
+}
+
+// The bytes of one word of a key.
+const IN_WORD: usize = 8;
+
+fn wide(b: u8) -> u64
+    ensures { λ r. ⌜ r ≡ b ⌝ }
+{
+    b as u64
+}
+
+// The bytes of a word from `from` on, as they count, as a number in base 256.
+fn word_from(s: &[u8], from: usize, alphabet: Alphabet) -> u64
+    requires { ⌜ from ≤ inWord ⌝ }
+    ensures { λ r. ⌜ r ≡ wordFrom alphabet from (now (s .entry)) ⌝ }
+{
+    let end = from + IN_WORD;
+    let mut w: u64 = 0;
+    let mut i = from;
+    while i < end {
+        if s.len() <= i {
+            return w;
+        }
+        w = 256 * w + wide(counts_as(s[i], alphabet));
+        i += 1;
+    }
+    w
+}
+
+// How many bytes there are, and the first 16 of them as they count: two names are the same exactly where their keys are.
+pub struct Key {
+    pub length: usize,
+    pub first: u64,
+    pub second: u64,
+}
+
+pub fn key_of(s: &[u8], alphabet: Alphabet) -> Key
+    ensures { λ r. ⌜ (r ≡ keyOf alphabet (now (s .entry))) × Bytes (now (s .entry)) ⌝ }
+{
+    Key {
+        length: s.len(),
+        first: word_from(s, 0, alphabet),
+        second: word_from(s, IN_WORD, alphabet),
+    }
+}
+
+pub fn same_key(a: Key, b: Key) -> bool
+    ensures { λ r. ⌜ r ≡ sameKey a b ⌝ }
+{
+    if a.length != b.length {
+        return false;
+    }
+    if a.first != b.first {
+        return false;
+    }
+    a.second == b.second
+}
+
+// Whether the bytes of s, as they are spelled, are those of a word.
+fn spells(s: &[u8], word: &[u8]) -> bool
+    ensures { λ r. ⌜ (length (now (word .entry)) ≤ maxLength → r ≡ sameBytes (now (s .entry)) (now (word .entry))) ⌝ }
+{
+    same_key(
+        key_of(s, Alphabet::SmallOnly),
+        key_of(word, Alphabet::SmallOnly),
+    )
 }
 
 // The first field of a line.
@@ -147,13 +238,13 @@ pub enum Word {
 pub fn word_of(f: &[u8]) -> Word
     ensures { λ r. ⌜ r ≡ wordOf (now (f .entry)) ⌝ }
 {
-    if same_bytes(f, b"name") {
+    if spells(f, b"name") {
         return Word::Name;
     }
-    if same_bytes(f, b"rule") {
+    if spells(f, b"rule") {
         return Word::Rule;
     }
-    if same_bytes(f, b"end") {
+    if spells(f, b"end") {
         return Word::End;
     }
     Word::Unknown
@@ -196,7 +287,7 @@ pub enum Form {
 }
 
 pub fn form_of(f: &[u8]) -> Form
-    ensures { λ r. ⌜ r ≡ formOf (now (f .entry)) ⌝ }
+    ensures { λ r. ⌜ r ≡ formOf EitherCase (now (f .entry)) ⌝ }
 {
     let m = marks_of(f);
     let from = m.tildes + m.minuses;

@@ -19,6 +19,14 @@ pub fn put16(t: &mut [u16], i: usize, v: u16)
     }
 }
 
+pub fn put64(t: &mut [u64], i: usize, w: u64)
+    ensures { λ r. ⌜ now (t .exit) ≡ set (now (t .entry)) i w ⌝ }
+{
+    if i < t.len() {
+        t[i] = w;
+    }
+}
+
 // The bytes of s from `at` on. The place is counted up and not added, so that it stays a number of the machine wherever `at` is.
 pub fn put_all(t: &mut [u8], at: usize, s: &[u8])
     ensures { λ r. ⌜ now (t .exit) ≡ sets (now (t .entry)) at (now (s .entry)) ⌝ }

@@ -10,7 +10,7 @@ use Rattle.reader.proofs.accepted_with.Tie as tie
 
 returns : tie.Need-returns
 unfolding loadedOf
-returns c = λ d h s. ap {B = Loaded} (λ (x : Book). record { answer = Accepted; book = x }) (book-held h s)
+returns c = λ d keys h s. ap {B = Loaded} (λ (x : Book). record { answer = Accepted; book = x }) (book-held h s)
 
 pub accepted-with-spec : {M : Type 1} → statement M
 accepted-with-spec = tie.close (tie.spec returns)

@@ -7,23 +7,26 @@ use Prim.Native.Nat.{ℕ, _≤_, _+_, _-_, _*_, _<_}
 use lib.ListN.{length, length-set}
 use lib.Seq.{sets}
 use Rattle.scan.specs.Text.{rest, comma}
+use Rattle.scan.specs.declared.Alphabet.the-variants.{EitherCase}
 use Rattle.book.specs.Limits.{maxNames}
+use Rattle.keys.specs.Keyed.{Keyed}
 use Rattle.reader.specs.File.{allFields, isKnown}
-use Rattle.reader.specs.Steps.{tableNames, fieldCode}
-use Rattle.reader.proofs.Fields.{fields-go, fields-stop, fields-end, not-declared, is-declared, code-is, known-small}
+use Rattle.reader.specs.Steps.{fieldCode}
+use Rattle.reader.proofs.Fields.{fields-go, fields-stop, fields-end, not-declared, is-declared, code-is}
 use Rattle.reader.proofs.Entries.{store-field, store-none}
 use native.Mathlib.Omega.{arith}
 use Rattle.reader.proofs.all_known.Statement.{statement}
 use Rattle.reader.proofs.all_known.Tie as tie
 
 abbrev Inv-loop : tie.InvT-loop
-Inv-loop text lengths count entries₀ at line from k₀ p₀ entries k p =
+Inv-loop keys hints count entries₀ at line from k₀ p₀ entries k p =
     (p ≤ length line + 1) × (k ≤ at + p) × (length entries ≡ length entries₀)
-    × (allFields (isKnown (tableNames text lengths count)) (rest comma line p) ≡ allFields (isKnown (tableNames text lengths count)) (rest comma line from))
-    × (sets entries k (map (fieldCode (tableNames text lengths count)) (rest comma line p)) ≡ sets entries₀ at (map (fieldCode (tableNames text lengths count)) (rest comma line from)))
+    × ((names : List (List ℕ)) → Keyed names keys → count ≡ length names
+    → (allFields (isKnown EitherCase names) (rest comma line p) ≡ allFields (isKnown EitherCase names) (rest comma line from))
+    × (sets entries k (map (fieldCode names) (rest comma line p)) ≡ sets entries₀ at (map (fieldCode names) (rest comma line from))))
 
 abbrev μ-loop : tie.MeasureT-loop
-μ-loop text lengths count entries₀ at line from k₀ p₀ entries k p = length line + 1 - p
+μ-loop keys hints count entries₀ at line from k₀ p₀ entries k p = length line + 1 - p
 
 -- ---- the places: the loop's head, the end of a field, the field looked up, its entry stored
 
@@ -45,22 +48,20 @@ at-told c = c .before .before .before .before
 abbrev line-of : tie.At-loop Inv-loop μ-loop → List ℕ
 line-of c = at-start c .args .line .now
 
-abbrev names-of : tie.At-loop Inv-loop μ-loop → List (List ℕ)
-names-of c = tableNames (at-start c .args .text .now) (at-start c .args .lengths .now) (at-start c .args .count)
-
 inside : (c : tie.After-end-of Inv-loop μ-loop) → c .end-of .result ≤ length (line-of (at-loop c))
 inside c = c .end-of .ensures .2 (c .before .loop-test .taken)
 
 -- the literal and the mark that are stored
 small : (c : tie.After-known-told Inv-loop μ-loop) → (c .before .literal .given .0 .0 < 2 * maxNames) × (c .before .literal .given .0 .1 .0 ≤ 1)
 small c =
-    let a = at-start (at-loop (at-end (at-field c))) .args in
-    known-small (a .text .now) (a .lengths .now) (a .count) _ _ _ (sym (at-field c .known-of .ensures) ∙ c .before .literal .given .1)
+    let start = at-start (at-loop (at-end (at-field c))) in
+    let few = at-field c .known-of .ensures .small _ _ (c .before .literal .given .1) in
+    (omega (arith, few .0, start .pre .0), few .1)
 
 -- ---- the needs
 
 loop-holds : tie.Need-loop-holds Inv-loop μ-loop
-loop-holds c = (search needs, omega arith, refl, refl, refl)
+loop-holds c = (search needs, omega arith, refl, λ names t e. (refl, refl))
 
 end-of-requires : tie.Need-end-of-requires Inv-loop μ-loop
 end-of-requires c κs = search needs
@@ -90,11 +91,10 @@ returns : tie.Need-returns Inv-loop μ-loop
 returns c =
     let end = at-end (c .before .before) in
     let at = at-loop end in
-    let names = names-of at in
-    let unknown = not-declared names _ (sym (c .before .before .known-of .ensures) ∙ c .enum-told .given .1) in
+    λ names t e. let unknown = not-declared names _ (sym (c .before .before .known-of .ensures .known names t e) ∙ c .enum-told .given .1) in
     record {
-      answer-is = sym (fields-stop (isKnown names) (line-of at) (at .loop .p) (end .end-of .result) (end .before .loop-test .taken) (end .end-of .ensures .0) unknown) ∙ at .loop .inv .3;
-      entries-are = λ e. absurd (true≢false (sym e));
+      answer-is = sym (fields-stop (isKnown EitherCase names) (line-of at) (at .loop .p) (end .end-of .result) (end .before .loop-test .taken) (end .end-of .ensures .0) unknown) ∙ at .loop .inv .3 names t e .0;
+      entries-are = λ z. absurd (true≢false (sym z));
     }
 
 mul-put16 : tie.Need-mul-put16 Inv-loop μ-loop
@@ -123,20 +123,20 @@ loop-again c =
     let told = at-told c in
     let end = at-end (at-field told) in
     let at = at-loop end in
-    let names = names-of at in
     let was = at .loop in
     let within = inside end in
     let l = told .before .literal .given .0 .0 in
     let t = told .before .literal .given .0 .1 .0 in
-    let entry = sym (at-field told .known-of .ensures) ∙ told .before .literal .given .1 in
     let stored = c .before .before .put16 .ensures in (
       omega arith,
       omega (arith, end .end-of .ensures .1),
       ap length stored ∙ simp length-set (was .inv .2),
-      sym (fields-go (isKnown names) (line-of at) (was .p) (end .end-of .result) (end .before .loop-test .taken) (end .end-of .ensures .0) (is-declared names _ l t entry)) ∙ was .inv .3,
-      ap (λ (x : List ℕ). sets x (was .k + 1) (map (fieldCode names) (rest comma (line-of at) (end .end-of .result + 1)))) stored
-          ∙ sym (store-field (was .entries) (was .k) (fieldCode names) (line-of at) (was .p) (end .end-of .result) (end .before .loop-test .taken) (end .end-of .ensures .0) (2 * l + t) (code-is names _ l t entry))
-          ∙ was .inv .4,
+      λ names k e. let entry = sym (at-field told .known-of .ensures .known names k e) ∙ told .before .literal .given .1 in (
+        sym (fields-go (isKnown EitherCase names) (line-of at) (was .p) (end .end-of .result) (end .before .loop-test .taken) (end .end-of .ensures .0) (is-declared names _ l t entry)) ∙ was .inv .3 names k e .0,
+        ap (λ (x : List ℕ). sets x (was .k + 1) (map (fieldCode names) (rest comma (line-of at) (end .end-of .result + 1)))) stored
+            ∙ sym (store-field (was .entries) (was .k) (fieldCode names) (line-of at) (was .p) (end .end-of .result) (end .before .loop-test .taken) (end .end-of .ensures .0) (2 * l + t) (code-is names _ l t entry))
+            ∙ was .inv .3 names k e .1,
+      ),
     )
 
 same-length-2 : tie.Need-same-length-2 Inv-loop μ-loop
@@ -145,10 +145,9 @@ same-length-2 c = c .before .loop .inv .2
 returns-2 : tie.Need-returns-2 Inv-loop μ-loop
 returns-2 c =
     let at = c .before in
-    let names = names-of at in
-    record {
-      answer-is = sym (fields-end (isKnown names) (line-of at) (at .loop .p) (c .loop-test .left)) ∙ at .loop .inv .3;
-      entries-are = λ e. sym (store-none (at .loop .entries) (at .loop .k) (fieldCode names) (line-of at) (at .loop .p) (c .loop-test .left)) ∙ at .loop .inv .4;
+    λ names t e. record {
+      answer-is = sym (fields-end (isKnown EitherCase names) (line-of at) (at .loop .p) (c .loop-test .left)) ∙ at .loop .inv .3 names t e .0;
+      entries-are = λ z. sym (store-none (at .loop .entries) (at .loop .k) (fieldCode names) (line-of at) (at .loop .p) (c .loop-test .left)) ∙ at .loop .inv .3 names t e .1;
     }
 
 pub all-known-spec : {M : Type 1} → statement M

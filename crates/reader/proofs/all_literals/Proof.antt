@@ -5,6 +5,7 @@ use Prim.Native.Nat.{_≤_, _+_, _-_}
 use lib.ListN.{length}
 use Rattle.scan.specs.Text.{rest, comma}
 use Rattle.scan.proofs.Forms.{malformed-form, literal-form}
+use Rattle.scan.specs.declared.Alphabet.the-variants.{EitherCase}
 use Rattle.reader.specs.File.{allFields, isLiteral}
 use Rattle.reader.proofs.Fields.{fields-go, fields-stop, fields-end}
 use native.Mathlib.Omega.{arith}
@@ -12,7 +13,7 @@ use Rattle.reader.proofs.all_literals.Statement.{statement}
 use Rattle.reader.proofs.all_literals.Tie as tie
 
 abbrev Inv-loop : tie.InvT-loop
-Inv-loop line from p₀ p = (p ≤ length line + 1) × (allFields isLiteral (rest comma line p) ≡ allFields isLiteral (rest comma line from))
+Inv-loop line from p₀ p = (p ≤ length line + 1) × (allFields (isLiteral EitherCase) (rest comma line p) ≡ allFields (isLiteral EitherCase) (rest comma line from))
 
 abbrev μ-loop : tie.MeasureT-loop
 μ-loop line from p₀ p = length line + 1 - p
@@ -46,7 +47,7 @@ returns c =
     let d = c .before .before .before .before in
     let at = d .before .before in
     let form = sym (c .before .before .form-of .ensures) ∙ c .enum-told2 .given .1 in
-    sym (fields-stop isLiteral (at .before .before .args .line .now) (at .loop .p) (d .end-of .result) (d .before .loop-test .taken) (d .end-of .ensures .0) (malformed-form _ form)) ∙ at .loop .inv .1
+    sym (fields-stop (isLiteral EitherCase) (at .before .before .args .line .now) (at .loop .p) (d .end-of .result) (d .before .loop-test .taken) (d .end-of .ensures .0) (malformed-form EitherCase _ form)) ∙ at .loop .inv .1
 
 add-p : tie.Need-add-p Inv-loop μ-loop
 add-p c = let within = c .before .before .before .before .end-of .ensures .2 (c .before .before .before .before .before .loop-test .taken) in omega arith
@@ -61,13 +62,13 @@ loop-again c =
     let within = d .end-of .ensures .2 (d .before .loop-test .taken) in
     let form = sym (c .before .before .form-of .ensures) ∙ c .enum-told .given .1 in (
       omega arith,
-      sym (fields-go isLiteral (at .before .before .args .line .now) (at .loop .p) (d .end-of .result) (d .before .loop-test .taken) (d .end-of .ensures .0) (literal-form _ _ _ form)) ∙ at .loop .inv .1,
+      sym (fields-go (isLiteral EitherCase) (at .before .before .args .line .now) (at .loop .p) (d .end-of .result) (d .before .loop-test .taken) (d .end-of .ensures .0) (literal-form EitherCase _ _ _ form)) ∙ at .loop .inv .1,
     )
 
 returns-2 : tie.Need-returns-2 Inv-loop μ-loop
 returns-2 c =
     let at = c .before in
-    sym (fields-end isLiteral (at .before .before .args .line .now) (at .loop .p) (c .loop-test .left)) ∙ at .loop .inv .1
+    sym (fields-end (isLiteral EitherCase) (at .before .before .args .line .now) (at .loop .p) (c .loop-test .left)) ∙ at .loop .inv .1
 
 pub all-literals-spec : {M : Type 1} → statement M
 all-literals-spec =

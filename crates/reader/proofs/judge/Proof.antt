@@ -25,21 +25,21 @@ use Rattle.reader.proofs.judge.Tie as tie
 -- ---- the places: the test of `end`, the end of the first field, the count of fields, and the arms of the match
 
 abbrev at-start : tie.Else1 → tie.Start
-at-start c = c .before .before .before .before .before .before .before
+at-start c = c .before .before .before .before .before .before .before .before .before
 
 abbrev at-end : tie.After-right-count → tie.After-end-of
 at-end c = c .before .before .before .before
 
-abbrev at-name : tie.After-name-line-arg2 → tie.After-enum-told
-at-name c = c .before .before
+abbrev at-name : tie.After-name-line-arg4 → tie.After-enum-told
+at-name c = c .before .before .before .before
 
-abbrev after-name : tie.After-slice-known7 → tie.After-name-line
-after-name c = c .before .before .before .before
+abbrev after-name : tie.After-slice-known11 → tie.After-name-line
+after-name c = c .before .before .before .before .before .before .before .before
 
 abbrev at-rule : tie.After-rule-line-arg5 → tie.After-enum-told2
 at-rule c = c .before .before .before .before .before .before
 
-abbrev after-rule : tie.After-slice-known10 → tie.After-rule-line
+abbrev after-rule : tie.After-slice-known14 → tie.After-rule-line
 after-rule c = c .before .before .before .before .before .before
 
 -- ---- the fields
@@ -105,7 +105,7 @@ rule-part c = rest-part comma (line-of (at-end (c .before .before .before))) (at
 
 returns : tie.Need-returns
 returns c =
-    let line = c .before .before .before .before .before .before .before .args .line .now in
+    let line = c .before .before .before .before .before .before .before .before .before .args .line .now in
     λ d h. line-fault (lineStep d (fields line))
     (ap (λ (s : Step). s .fault) (by-word d (wordOf _) (split-first comma line) refl) ∙ fault-ended d _ _ (sym (h .counted .ended-is) ∙ c .if1 .taken))
     (λ z. omega arith)
@@ -197,16 +197,16 @@ same-length c = search needs
 same-length-2 : tie.Need-same-length-2
 same-length-2 c = search needs
 
-returns-3 : tie.Need-returns-3
-returns-3 c =
-    let arm = at-name (after-name c .before .before) in
-    λ d h. read-as (name-read d _ (after-name c .name-line .ensures d h)) (step (arm .before .before .before .before) (arm .enum-told .given .1) d ∙ ap (wordStep d Name) (only-name arm))
-
 same-length-3 : tie.Need-same-length-3
 same-length-3 c = search needs
 
 same-length-4 : tie.Need-same-length-4
 same-length-4 c = search needs
+
+returns-3 : tie.Need-returns-3
+returns-3 c =
+    let arm = at-name (after-name c .before .before) in
+    λ d h. read-as (name-read d _ (after-name c .name-line .ensures d h)) (step (arm .before .before .before .before) (arm .enum-told .given .1) d ∙ ap (wordStep d Name) (only-name arm))
 
 same-length-5 : tie.Need-same-length-5
 same-length-5 c = search needs
@@ -217,10 +217,16 @@ same-length-6 c = search needs
 same-length-7 : tie.Need-same-length-7
 same-length-7 c = search needs
 
+same-length-8 : tie.Need-same-length-8
+same-length-8 c = search needs
+
+same-length-9 : tie.Need-same-length-9
+same-length-9 c = search needs
+
 returns-4 : tie.Need-returns-4
 returns-4 c =
     let arm = at-rule (after-rule c .before) in
-    λ d h. read-as (after-rule c .rule-line .ensures d h) (step (arm .before .before .before .before) (arm .enum-told2 .given .1) d ∙ ap (wordStep d RuleWord) (sym (rule-part arm)))
+    λ d h. read-as (after-rule c .rule-line .ensures d _ _ h) (step (arm .before .before .before .before) (arm .enum-told2 .given .1) d ∙ ap (wordStep d RuleWord) (sym (rule-part arm)))
 
 returns-5 : tie.Need-returns-5
 returns-5 c =
@@ -265,12 +271,14 @@ judge-spec =
     enum-told-4
     same-length
     same-length-2
-    returns-3
     same-length-3
     same-length-4
+    returns-3
     same-length-5
     same-length-6
     same-length-7
+    same-length-8
+    same-length-9
     returns-4
     returns-5
     returns-6)

@@ -1,4 +1,4 @@
--- `name_line`: each test that fails settles the fault, in the definition's order; a name that passes them is stored behind the others.
+-- `name_line`: each test that fails settles the fault, in the definition's order; a name that passes them joins the others, its key behind their keys.
 use borrow.Author.Needs.{needs}
 use mathlib.Core.Path.{_≡_, sym, ap, _∙_}
 use mathlib.Core.Bool.{true}
@@ -7,37 +7,64 @@ use Prim.Native.Nat.{ℕ, _<_}
 use native.Mathlib.Omega.{arith}
 use borrow.Author.Tests.{not-true, not-false}
 use Rattle.scan.specs.Text.{isName}
-use Rattle.scan.proofs.Bytes.{name-fits}
-use Rattle.book.specs.Book.{find}
-use Rattle.book.specs.declared.Found.{Found}
+use Rattle.scan.specs.declared.Alphabet.the-variants.{EitherCase}
+use Rattle.scan.proofs.Names.{name-fits}
 use Rattle.book.specs.Limits.{maxNames}
-use Rattle.reader.specs.File.{Content, isFound, declared}
+use Rattle.book.specs.Book.{find}
+use Rattle.keys.specs.Keyed.{KeyFor}
+use Rattle.reader.specs.File.{Content, isFound}
 use Rattle.reader.specs.Steps.{Holds}
 use Rattle.reader.proofs.Numbers.{name-malformed, name-declared, name-beyond, name-fine}
-use Rattle.reader.proofs.Held.{held-names, name-held}
+use Rattle.reader.proofs.Held.{names-held, name-held}
 use Rattle.reader.proofs.name_line.Statement.{statement}
 use Rattle.reader.proofs.name_line.Tie as tie
 
--- the places: the test of the name, the look-up, the test of the count, and behind the stores
+-- ---- the places: the test of the name, its key, the look-up, the test of the count, and behind the stores
+
 abbrev at-start : tie.After-is-name → tie.Start
-at-start c = c .before .before .before .before
+at-start c = c .before .before .before .before .before .before
 
-abbrev at-test : tie.After-find-in → tie.Else1
-at-test c = c .before .before .before
+abbrev at-key : tie.After-find → tie.After-key-of
+at-key c = c .before .before .before
 
-abbrev at-count : tie.After-slice-known4 → tie.Else2
-at-count c = c .before .before .before .before .before .before .before .before
+abbrev at-test : tie.After-find → tie.Else1
+at-test c = at-key c .before
+
+abbrev at-look : tie.Else2 → tie.After-find
+at-look c = c .before .before .before
+
+abbrev at-room : tie.After-put-all → tie.Else2
+at-room c = c .before .before .before .before .before .before .before .before .before
+
+abbrev at-put : tie.After-put-all → tie.After-put
+at-put c = c .before .before .before .before .before .before
+
+abbrev at-text : tie.After-slice-known8 → tie.After-put-all
+at-text c = c .before .before .before .before .before .before
+
+abbrev start-of : tie.After-find → tie.Start
+start-of c = at-start (at-test c .before)
 
 abbrev name-of : tie.After-is-name → List ℕ
 name-of c = at-start c .args .name .now
 
-named : (c : tie.Else1) → isName (name-of (c .before)) ≡ true
+-- ---- what is known there
+
+named : (c : tie.Else1) → isName EitherCase (name-of (c .before)) ≡ true
 named c = sym (c .before .is-name .ensures) ∙ not-false (c .before .is-name .result) (c .if1 .left)
 
--- what the look-up in the tables says of the names that they hold
-found : (c : tie.After-find-in) {d : Content} → Holds d (at-start (at-test c .before) .args .t) (at-start (at-test c .before) .args .text .now) (at-start (at-test c .before) .args .lengths .now)
-    → {x : Found} → c .find-in .result ≡ x → declared (d .names) (name-of (at-test c .before)) ≡ isFound x
-found c h q = ap isFound (sym (c .find-in .ensures ∙ ap (λ (l : List (List ℕ)). find l (name-of (at-test c .before))) (held-names h)) ∙ q)
+key-for : (c : tie.After-key-of) → KeyFor (c .key-of .result) (name-of (c .before .before))
+key-for c = record { key-is = c .key-of .ensures .0; bytes = c .key-of .ensures .1 }
+
+-- the lines before say d
+abbrev Said : tie.After-find → Content → Type 0
+Said c d = Holds d (start-of c .args .t) (start-of c .args .keys .now) (start-of c .args .text .now) (start-of c .args .lengths .now)
+
+-- the look-up among the names said
+found : (c : tie.After-find) {d : Content} → Said c d → c .find .result ≡ find EitherCase (d .names) (name-of (at-test c .before))
+found c {d} h = c .find .ensures .found (d .names) _ (h .keyed) (names-held h) (key-for (at-key c))
+
+-- ---- the needs
 
 is-name-requires : tie.Need-is-name-requires
 is-name-requires c κs = search needs
@@ -47,8 +74,11 @@ returns c =
     let going = at-start (c .before) .pre .1 in
     λ d h. (name-malformed (h .counted) going _ (sym (c .before .is-name .ensures) ∙ not-true (c .before .is-name .result) (c .if1 .taken)), λ z. omega arith)
 
-find-in-requires : tie.Need-find-in-requires
-find-in-requires c κs = search needs
+key-of-requires : tie.Need-key-of-requires
+key-of-requires c κs = search needs
+
+find-requires : tie.Need-find-requires
+find-requires c κs = search needs
 
 enum-told : tie.Need-enum-told
 enum-told c = search needs
@@ -64,9 +94,8 @@ same-length-2 c = search needs
 
 returns-2 : tie.Need-returns-2
 returns-2 c =
-    let looked = c .before .before in
-    let going = at-start (at-test looked .before) .pre .1 in
-    λ d h. (name-declared (h .counted) going _ (named (at-test looked)) (found looked h (c .enum-told2 .given .1)), λ z. omega arith)
+    let look = c .before .before in
+    λ d h. (name-declared (h .counted) (start-of look .pre .1) _ (named (at-test look)) (ap isFound (sym (found look h) ∙ c .enum-told2 .given .1)), λ z. omega arith)
 
 same-length-3 : tie.Need-same-length-3
 same-length-3 c = search needs
@@ -76,9 +105,14 @@ same-length-4 c = search needs
 
 returns-3 : tie.Need-returns-3
 returns-3 c =
-    let looked = c .before .before .before in
-    let going = at-start (at-test looked .before) .pre .1 in
-    λ d h. (name-beyond (h .counted) going _ (named (at-test looked)) (found looked h (c .before .enum-told .given .1)) (omega (arith, c .if2 .taken)), λ z. omega arith)
+    let look = c .before .before .before in
+    λ d h. (
+      name-beyond (h .counted) (start-of look .pre .1) _ (named (at-test look)) (ap isFound (sym (found look h) ∙ c .before .enum-told .given .1)) (omega (arith, c .if2 .taken)),
+      λ z. omega arith,
+    )
+
+put-requires : tie.Need-put-requires
+put-requires c κs = search needs
 
 mul-put-all : tie.Need-mul-put-all
 mul-put-all c = search needs
@@ -88,15 +122,15 @@ put-all-requires c κs = search needs
 
 cast-put8 : tie.Need-cast-put8
 cast-put8 c =
-    let looked = c .before .before .before .before .before .before .before .before in
-    let fits = name-fits _ (named (at-test looked)) .1 in
+    let look = at-look (at-room (c .before .before .before)) in
+    let fits = name-fits EitherCase _ (named (at-test look)) .1 in
     search needs
 
 put8-requires : tie.Need-put8-requires
 put8-requires c κs = search needs
 
-add-t16 : tie.Need-add-t16
-add-t16 c = search needs
+add-t24 : tie.Need-add-t24
+add-t24 c = search needs
 
 same-length-5 : tie.Need-same-length-5
 same-length-5 c = search needs
@@ -104,15 +138,25 @@ same-length-5 c = search needs
 same-length-6 : tie.Need-same-length-6
 same-length-6 c = search needs
 
+same-length-7 : tie.Need-same-length-7
+same-length-7 c = search needs
+
+same-length-8 : tie.Need-same-length-8
+same-length-8 c = search needs
+
 returns-4 : tie.Need-returns-4
 returns-4 c =
-    let room : at-start (at-test (at-count c .before .before .before) .before) .args .t .names < maxNames = omega (arith, at-count c .if2 .left) in
-    let looked = at-count c .before .before .before in
-    let is-named = named (at-test looked) in
-    let going = at-start (at-test looked .before) .pre .1 in
-    λ d h. (
-      name-fine (h .counted) going _ is-named (found looked h (at-count c .before .enum-told .given .1)) room,
-      name-held h (name-of (at-test looked .before)) _ _ room (name-fits _ is-named .1) (c .before .before .before .before .before .before .put-all .ensures) (c .before .before .put8 .ensures),
+    let text = at-text c in
+    let counted = at-room text in
+    let look = at-look counted in
+    let start = start-of look in
+    let room : start .args .t .names < maxNames = omega (arith, counted .if2 .left) in
+    let is-named = named (at-test look) in
+    let short = name-fits EitherCase _ is-named .1 in
+    λ d h. let new = sym (found look h) ∙ counted .before .enum-told .given .1 in (
+      name-fine (h .counted) (start .pre .1) _ is-named (ap isFound new) room,
+      name-held h (name-of (at-test look .before)) room short
+          (at-put text .put .ensures (d .names) _ (h .keyed) (names-held h) room (key-for (at-key look)) short new) (text .put-all .ensures) (c .before .before .put8 .ensures),
     )
 
 pub name-line-spec : {M : Type 1} → statement M
@@ -121,7 +165,8 @@ name-line-spec =
     (tie.spec
     is-name-requires
     returns
-    find-in-requires
+    key-of-requires
+    find-requires
     enum-told
     enum-told-2
     same-length
@@ -130,11 +175,14 @@ name-line-spec =
     same-length-3
     same-length-4
     returns-3
+    put-requires
     mul-put-all
     put-all-requires
     cast-put8
     put8-requires
-    add-t16
+    add-t24
     same-length-5
     same-length-6
+    same-length-7
+    same-length-8
     returns-4)

@@ -9,7 +9,7 @@ use Rattle.reader.proofs.read.Tie as tie
 
 -- the file read
 abbrev at-read : tie.After-entries2 → tie.After-read-file
-at-read c = c .before .before .before .before .before
+at-read c = c .before .before .before .before .before .before .before
 
 slice-aggregate-read-file : tie.Need-slice-aggregate-read-file
 slice-aggregate-read-file c = search needs
@@ -25,6 +25,12 @@ slice-aggregate-read-file-4 c = search needs
 
 slice-aggregate-read-file-5 : tie.Need-slice-aggregate-read-file-5
 slice-aggregate-read-file-5 c = search needs
+
+slice-aggregate-read-file-6 : tie.Need-slice-aggregate-read-file-6
+slice-aggregate-read-file-6 c = search needs
+
+slice-aggregate-read-file-7 : tie.Need-slice-aggregate-read-file-7
+slice-aggregate-read-file-7 c = search needs
 
 read-file-requires : tie.Need-read-file-requires
 read-file-requires c κs = nothing-held
@@ -45,7 +51,7 @@ returns : tie.Need-returns
 returns c =
     let read = at-read (c .before .before .before .before) in
     let fine = file-fine (read .read-file .ensures) (c .before .before .t .given .1) in
-    c .accepted-with .ensures (fine .content) (fine .held) (fine .stored nothing-stored) ∙ ap loadedOf (sym (fine .outcome))
+    c .accepted-with .ensures (fine .content) _ (fine .held) (fine .stored nothing-stored) ∙ ap loadedOf (sym (fine .outcome))
 
 returns-2 : tie.Need-returns-2
 returns-2 c =
@@ -61,6 +67,8 @@ read-spec =
     slice-aggregate-read-file-3
     slice-aggregate-read-file-4
     slice-aggregate-read-file-5
+    slice-aggregate-read-file-6
+    slice-aggregate-read-file-7
     read-file-requires
     enum-known-t
     accepted-with-requires

@@ -8,6 +8,7 @@ use native.Mathlib.Nat.{sub-zero}
 use lib.ListN.{length, take}
 use borrow.Author.Tests.{not-true, not-false}
 use Rattle.scan.specs.Text.{newline, split, isText, allBytes}
+use Rattle.scan.specs.declared.Alphabet.the-variants.{EitherCase}
 use Rattle.reader.specs.File.{nothingYet, readLines}
 use Rattle.reader.proofs.Answers.{nothing-read, file-as}
 use Rattle.reader.proofs.NoBytes.{no-bytes}
@@ -16,14 +17,14 @@ use Rattle.reader.proofs.read_file.Statement.{statement}
 use Rattle.reader.proofs.read_file.Tie as tie
 
 -- the places: the tests one by one
-abbrev at-start : tie.After-slice-known5 → tie.Start
-at-start c = c .before .before .before .before .before .before
+abbrev at-start : tie.After-slice-known7 → tie.Start
+at-start c = c .before .before .before .before .before .before .before .before
 
 abbrev file-of : tie.After-all-text → List ℕ
 file-of c = at-start (c .before .before) .args .file .now
 
-abbrev at-lines : tie.After-slice-known10 → tie.After-read-lines
-at-lines c = c .before .before .before .before .before .before .before .before .before .before
+abbrev at-lines : tie.After-slice-known14 → tie.After-read-lines
+at-lines c = c .before .before .before .before .before .before .before .before .before .before .before .before .before .before
 
 texts : (c : tie.Else2) → allBytes isText (file-of (c .before)) ≡ true
 texts c = sym (c .before .all-text .ensures) ∙ not-false (c .before .all-text .result) (c .if2 .left)
@@ -45,7 +46,7 @@ none-yet-requires c κs = search needs
 returns-3 : tie.Need-returns-3
 returns-3 c =
     let tested = c .before .before .before in
-    nothing-read (c .none-yet .ensures) (no-bytes (file-of tested) (c .before .if3 .taken)) (at-start (tested .before .before) .pre)
+    nothing-read (c .none-yet .ensures) (no-bytes EitherCase (file-of tested) (c .before .if3 .taken)) (at-start (tested .before .before) .pre)
 
 sub-if4 : tie.Need-sub-if4
 sub-if4 c = search needs
@@ -72,7 +73,7 @@ part-read-lines-end : tie.Need-part-read-lines-end
 part-read-lines-end c = search needs
 
 read-lines-requires : tie.Need-read-lines-requires
-read-lines-requires c κs = at-start (c .before .before .before .before .before .before .before .before .before .before .before .before) .pre
+read-lines-requires c κs = at-start (c .before .before .before .before .before .before .before .before .before .before .before .before .before .before) .pre
 
 same-length : tie.Need-same-length
 same-length c = search needs
@@ -89,15 +90,21 @@ same-length-4 c = search needs
 same-length-5 : tie.Need-same-length-5
 same-length-5 c = search needs
 
+same-length-6 : tie.Need-same-length-6
+same-length-6 c = search needs
+
+same-length-7 : tie.Need-same-length-7
+same-length-7 c = search needs
+
 returns-5 : tie.Need-returns-5
 returns-5 c =
     let judged = at-lines c in
-    let some = judged .before .before .before .before .before .before .before .before .before in
+    let some = judged .before .before .before .before .before .before .before .before .before .before .before in
     let text = some .before in
     let file = file-of (text .before) in
     file-as (judged .read-lines .ensures)
-    (file-lines file (text .before .before .if1 .left) (texts text) (some .if3 .left) (judged .before .before .before .before .before .before .before .if4 .left)
-    ∙ ap (λ (n : ℕ). readLines nothingYet 1 (split newline (take n file))) (sym (sub-zero (length file - 1))))
+    (file-lines file (text .before .before .if1 .left) (texts text) (some .if3 .left) (judged .before .before .before .before .before .before .before .before .before .if4 .left)
+    ∙ ap (λ (n : ℕ). readLines EitherCase nothingYet 1 (split newline (take n file))) (sym (sub-zero (length file - 1))))
 
 pub read-file-spec : {M : Type 1} → statement M
 read-file-spec =
@@ -121,4 +128,6 @@ read-file-spec =
     same-length-3
     same-length-4
     same-length-5
+    same-length-6
+    same-length-7
     returns-5)

@@ -6,6 +6,7 @@ use Prim.Native.Nat.{ℕ, _+_, _-_, _≤_}
 use native.Mathlib.Omega.{arith}
 use lib.ListN.{length, take, drop}
 use Rattle.scan.specs.Text.{fields}
+use Rattle.scan.specs.declared.Alphabet.the-variants.{EitherCase}
 use Rattle.reader.specs.File.{withLine}
 use Rattle.reader.proofs.Answers.{was-fine, was-fault}
 use Rattle.reader.proofs.Progress.{lines-go, lines-stop, ReadTo, read-none, read-last}
@@ -13,18 +14,19 @@ use Rattle.reader.proofs.read_lines.Statement.{statement}
 use Rattle.reader.proofs.read_lines.Tie as tie
 
 abbrev Inv-loop : tie.InvT-loop
-Inv-loop b text₀ lengths₀ heads₀ starts₀ entries₀ t₀ at₀ number₀ text lengths heads starts entries t at number =
-    (at ≤ length b + 1) × (number ≤ at + 1) × ReadTo b t at number text lengths heads₀ starts₀ entries₀ heads starts entries
+Inv-loop b keys₀ hints₀ text₀ lengths₀ heads₀ starts₀ entries₀ t₀ at₀ number₀ keys hints text lengths heads starts entries t at number =
+    (at ≤ length b + 1) × (number ≤ at + 1) × ReadTo b t at number keys text lengths heads₀ starts₀ entries₀ heads starts entries
+    × (length keys ≡ length keys₀) × (length hints ≡ length hints₀)
     × (length text ≡ length text₀) × (length lengths ≡ length lengths₀)
     × (length heads ≡ length heads₀) × (length starts ≡ length starts₀) × (length entries ≡ length entries₀)
 
 abbrev μ-loop : tie.MeasureT-loop
-μ-loop b text₀ lengths₀ heads₀ starts₀ entries₀ t₀ at₀ number₀ text lengths heads starts entries t at number = length b + 1 - at
+μ-loop b keys₀ hints₀ text₀ lengths₀ heads₀ starts₀ entries₀ t₀ at₀ number₀ keys hints text lengths heads starts entries t at number = length b + 1 - at
 
 -- ---- the places: the loop's head, the end of a line, the line judged, and its answer
 
 abbrev at-size : tie.At-loop Inv-loop μ-loop → tie.After-shared-slice-known Inv-loop μ-loop
-at-size c = c .before .before .before .before .before .before .before
+at-size c = c .before .before .before .before .before .before .before .before .before
 
 abbrev at-start : tie.At-loop Inv-loop μ-loop → tie.Start Inv-loop μ-loop
 at-start c = at-size c .before
@@ -36,10 +38,10 @@ abbrev at-loop : tie.After-end-of Inv-loop μ-loop → tie.At-loop Inv-loop μ-l
 at-loop c = c .before .before
 
 abbrev at-end : tie.After-judge Inv-loop μ-loop → tie.After-end-of Inv-loop μ-loop
-at-end c = c .before .before .before .before .before .before .before
+at-end c = c .before .before .before .before .before .before .before .before .before
 
-abbrev at-answer : tie.After-slice-known10 Inv-loop μ-loop → tie.After-judge Inv-loop μ-loop
-at-answer c = c .before .before .before .before .before .before .before .before .before .before
+abbrev at-answer : tie.After-slice-known14 Inv-loop μ-loop → tie.After-judge Inv-loop μ-loop
+at-answer c = c .before .before .before .before .before .before .before .before .before .before .before .before .before .before
 
 abbrev at-fine : tie.After-known-told Inv-loop μ-loop → tie.After-judge Inv-loop μ-loop
 at-fine c = at-answer (c .before .before .before)
@@ -55,17 +57,20 @@ inside : (c : tie.After-end-of Inv-loop μ-loop) → c .end-of .result ≤ lengt
 inside c = c .end-of .ensures .2 (c .before .loop-test .taken)
 
 -- the slices that a line was lent have the lengths that they came with
-lengths-kept : (c : tie.After-slice-known10 Inv-loop μ-loop)
+lengths-kept : (c : tie.After-slice-known14 Inv-loop μ-loop)
     → let now = at-answer c .judge .last .1 in let was = at-start (at-loop (at-end (at-answer c))) .args in
-    (length (now .0) ≡ length (was .text .now)) × (length (now .1 .0) ≡ length (was .lengths .now)) × (length (now .1 .1 .0) ≡ length (was .heads .now))
-    × (length (now .1 .1 .1 .0) ≡ length (was .starts .now)) × (length (now .1 .1 .1 .1 .0) ≡ length (was .entries .now))
+    (length (now .0) ≡ length (was .keys .now)) × (length (now .1 .0) ≡ length (was .hints .now))
+    × (length (now .1 .1 .0) ≡ length (was .text .now)) × (length (now .1 .1 .1 .0) ≡ length (was .lengths .now)) × (length (now .1 .1 .1 .1 .0) ≡ length (was .heads .now))
+    × (length (now .1 .1 .1 .1 .1 .0) ≡ length (was .starts .now)) × (length (now .1 .1 .1 .1 .1 .1 .0) ≡ length (was .entries .now))
 lengths-kept c =
     let inv = at-loop (at-end (at-answer c)) .loop .inv in (
-      c .before .before .before .before .before .before .before .before .before .text .given ∙ inv .3,
-      c .before .before .before .before .before .before .before .lengths .given ∙ inv .4,
-      c .before .before .before .before .before .heads .given ∙ inv .5,
-      c .before .before .before .starts .given ∙ inv .6,
-      c .before .entries .given ∙ inv .7,
+      c .before .before .before .before .before .before .before .before .before .before .before .before .before .keys .given ∙ inv .3,
+      c .before .before .before .before .before .before .before .before .before .before .before .hints .given ∙ inv .4,
+      c .before .before .before .before .before .before .before .before .before .text .given ∙ inv .5,
+      c .before .before .before .before .before .before .before .lengths .given ∙ inv .6,
+      c .before .before .before .before .before .heads .given ∙ inv .7,
+      c .before .before .before .starts .given ∙ inv .8,
+      c .before .entries .given ∙ inv .9,
     )
 
 -- ---- the needs
@@ -75,8 +80,8 @@ none-yet-requires c κs = search needs
 
 loop-holds : tie.Need-loop-holds Inv-loop μ-loop
 loop-holds c =
-    let start = c .before .before .before .before .before .before .before in
-    (search needs, search needs, rw (c .none-yet .ensures) (read-none (start .args .b .now) (start .pre)), search needs, search needs, search needs, search needs, search needs)
+    let start = c .before .before .before .before .before .before .before .before .before in
+    (search needs, search needs, rw (c .none-yet .ensures) (read-none (start .args .b .now) (start .pre)), search needs, search needs, search needs, search needs, search needs, search needs, search needs)
 
 end-of-requires : tie.Need-end-of-requires Inv-loop μ-loop
 end-of-requires c κs = search needs
@@ -88,10 +93,10 @@ part-judge-start : tie.Need-part-judge-start Inv-loop μ-loop
 part-judge-start c = search needs
 
 part-judge-end : tie.Need-part-judge-end Inv-loop μ-loop
-part-judge-end c = let within = inside (c .before .before .before .before .before) in search needs
+part-judge-end c = let within = inside (c .before .before .before .before .before .before .before) in search needs
 
 judge-requires : tie.Need-judge-requires Inv-loop μ-loop
-judge-requires c κs = at-loop (c .before .before .before .before .before .before) .loop .inv .2 .held .counted .fits
+judge-requires c κs = at-loop (c .before .before .before .before .before .before .before .before) .loop .inv .2 .held .counted .fits
 
 enum-known-u : tie.Need-enum-known-u Inv-loop μ-loop
 enum-known-u c = search needs
@@ -113,6 +118,12 @@ same-length-4 c = lengths-kept (c .before .before .before) .3
 
 same-length-5 : tie.Need-same-length-5 Inv-loop μ-loop
 same-length-5 c = lengths-kept (c .before .before .before) .4
+
+same-length-6 : tie.Need-same-length-6 Inv-loop μ-loop
+same-length-6 c = lengths-kept (c .before .before .before) .5
+
+same-length-7 : tie.Need-same-length-7 Inv-loop μ-loop
+same-length-7 c = lengths-kept (c .before .before .before) .6
 
 returns : tie.Need-returns Inv-loop μ-loop
 returns c =
@@ -160,7 +171,7 @@ loop-again c =
       omega arith,
       omega arith,
       record {
-        content = withLine (read .content) (line-at end);
+        content = withLine EitherCase (read .content) (line-at end);
         held = told .1;
         stored = λ none. line .stored (told .0) (read .stored none);
         same = sym (lines-go (read .content) (was .number) (bytes-of (at-loop end)) (was .at) (end .end-of .result) (end .before .loop-test .taken) (end .end-of .ensures .0) (told .0)) ∙ read .same;
@@ -170,25 +181,33 @@ loop-again c =
       kept .2,
       kept .3,
       kept .4,
+      kept .5,
+      kept .6,
     )
 
 last-answer-requires : tie.Need-last-answer-requires Inv-loop μ-loop
 last-answer-requires c κs = search needs
 
-same-length-6 : tie.Need-same-length-6 Inv-loop μ-loop
-same-length-6 c = c .before .before .loop .inv .3
-
-same-length-7 : tie.Need-same-length-7 Inv-loop μ-loop
-same-length-7 c = c .before .before .loop .inv .4
-
 same-length-8 : tie.Need-same-length-8 Inv-loop μ-loop
-same-length-8 c = c .before .before .loop .inv .5
+same-length-8 c = c .before .before .loop .inv .3
 
 same-length-9 : tie.Need-same-length-9 Inv-loop μ-loop
-same-length-9 c = c .before .before .loop .inv .6
+same-length-9 c = c .before .before .loop .inv .4
 
 same-length-10 : tie.Need-same-length-10 Inv-loop μ-loop
-same-length-10 c = c .before .before .loop .inv .7
+same-length-10 c = c .before .before .loop .inv .5
+
+same-length-11 : tie.Need-same-length-11 Inv-loop μ-loop
+same-length-11 c = c .before .before .loop .inv .6
+
+same-length-12 : tie.Need-same-length-12 Inv-loop μ-loop
+same-length-12 c = c .before .before .loop .inv .7
+
+same-length-13 : tie.Need-same-length-13 Inv-loop μ-loop
+same-length-13 c = c .before .before .loop .inv .8
+
+same-length-14 : tie.Need-same-length-14 Inv-loop μ-loop
+same-length-14 c = c .before .before .loop .inv .9
 
 returns-2 : tie.Need-returns-2 Inv-loop μ-loop
 returns-2 c = rw (c .last-answer .ensures) (read-last (c .before .before .loop .inv .2) (c .before .loop-test .left))
@@ -213,15 +232,19 @@ read-lines-spec =
     same-length-3
     same-length-4
     same-length-5
+    same-length-6
+    same-length-7
     returns
     add-at
     add-number
     loop-less
     loop-again
     last-answer-requires
-    same-length-6
-    same-length-7
     same-length-8
     same-length-9
     same-length-10
+    same-length-11
+    same-length-12
+    same-length-13
+    same-length-14
     returns-2)

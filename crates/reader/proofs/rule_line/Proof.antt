@@ -10,14 +10,15 @@ use lib.ListN.{length, take, drop, set}
 use borrow.Author.Tests.{ltb-true, ltb-false, not-true, not-false}
 use Rattle.scan.specs.Text.{comma, rest, fields}
 use Rattle.scan.specs.declared.Word.the-variants.{Rule as RuleWord}
+use Rattle.scan.specs.declared.Alphabet.the-variants.{EitherCase}
 use Rattle.book.specs.Limits.{maxRules, maxEntries}
 use Rattle.reader.specs.File.{Content, allFields, isKnown, malformed}
 use Rattle.reader.specs.Steps.{Holds, knownOf, FieldsKnown, wordStep}
 use Rattle.reader.specs.declared.Known.{Known}
 use Rattle.reader.specs.declared.Known.the-variants.{Entry}
-use Rattle.reader.proofs.Fields.{first-field, first-passes, first-fails, not-declared, is-declared, literal-is, known-small, known-among}
+use Rattle.reader.proofs.Fields.{first-field, first-passes, first-fails, not-declared, is-declared, literal-is}
 use Rattle.reader.proofs.Numbers.{rule-malformed, rule-undeclared, rule-too-many, rule-too-long, rule-fine}
-use Rattle.reader.proofs.Held.{held-names, rule-held, rule-stored}
+use Rattle.reader.proofs.Held.{names-held, rule-held, rule-stored}
 use Rattle.reader.proofs.Answers.{line-fault}
 use Rattle.reader.proofs.rule_line.Statement.{statement}
 use Rattle.reader.proofs.rule_line.Tie as tie
@@ -48,8 +49,8 @@ at-stores c = c .before .before .before .before .before .before .before .before
 -- ---- what is known there
 
 -- the lines before say d
-abbrev Said : tie.After-well-formed → Content → Type 0
-Said c d = Holds d (at-start c .args .t) (at-start c .args .text .now) (at-start c .args .lengths .now)
+abbrev Said : tie.After-well-formed → Content → List ℕ → List ℕ → Type 0
+Said c d text lengths = Holds d (at-start c .args .t) (at-start c .args .keys .now) text lengths
 
 abbrev fields-of : tie.After-well-formed → List (List ℕ)
 fields-of c = fields (at-start c .args .rule .now)
@@ -68,28 +69,28 @@ inside : (c : tie.After-end-of) → c .end-of .result ≤ length (at-start (at-f
 inside c = c .end-of .ensures .2 zero-le
 
 -- no field is malformed and the head has no `~`
-formed : (c : tie.After-end-of) → malformed RuleWord (fields-of (at-forms c)) ≡ false
+formed : (c : tie.After-end-of) → malformed EitherCase RuleWord (fields-of (at-forms c)) ≡ false
 formed c = not-true _ (sym (at-forms c .well-formed .ensures) ∙ not-false _ (c .before .if1 .left))
 
 -- the head looked up among the names said
-looked-up : (c : tie.After-known-of) {d : Content} → Said (at-forms (c .before .before)) d → {k : Known} → c .known-of .result ≡ k → knownOf (d .names) (head-field (c .before .before)) ≡ k
-looked-up c h e = ap (λ (l : List (List ℕ)). knownOf l (head-field (c .before .before))) (sym (held-names h)) ∙ sym (c .known-of .ensures) ∙ e
+looked-up : (c : tie.After-known-of) {d : Content} {text lengths : List ℕ} → Said (at-forms (c .before .before)) d text lengths → {k : Known} → c .known-of .result ≡ k → knownOf (d .names) (head-field (c .before .before)) ≡ k
+looked-up c {d} h e = sym (c .known-of .ensures .known (d .names) (h .keyed) (names-held h)) ∙ e
 
-head-entry : (c : tie.After-known-told) {d : Content} → Said (at-forms (at-end c)) d
+head-entry : (c : tie.After-known-told) {d : Content} {text lengths : List ℕ} → Said (at-forms (at-end c)) d text lengths
     → knownOf (d .names) (head-field (at-end c)) ≡ Entry (c .before .literal .given .0 .0) (c .before .literal .given .0 .1 .0)
 head-entry c h = looked-up (at-head c) h (c .before .literal .given .1)
 
 -- the body looked up among the names said
-body-known : (c : tie.After-all-known) {d : Content} → Said (at-forms (at-end (at-known c))) d
+body-known : (c : tie.After-all-known) {d : Content} {text lengths : List ℕ} → Said (at-forms (at-end (at-known c))) d text lengths
     → FieldsKnown (d .names) (others (at-end (at-known c))) (at-start (at-forms (at-end (at-known c))) .args .t .used) (c .all-known .result) (at-start (at-forms (at-end (at-known c))) .args .entries .now) (c .all-known .last .1 .1 .1 .0)
-body-known c h = known-among (held-names h) (c .all-known .ensures)
+body-known c {d} h = c .all-known .ensures (d .names) (h .keyed) (names-held h)
 
 -- the fields behind the head decide whether all names are declared
-known-by-body : (c : tie.After-all-known) {d : Content} → Said (at-forms (at-end (at-known c))) d
-    → allFields (isKnown (d .names)) (fields-of (at-forms (at-end (at-known c)))) ≡ c .all-known .result
+known-by-body : (c : tie.After-all-known) {d : Content} {text lengths : List ℕ} → Said (at-forms (at-end (at-known c))) d text lengths
+    → allFields (isKnown EitherCase (d .names)) (fields-of (at-forms (at-end (at-known c)))) ≡ c .all-known .result
 known-by-body c {d} h =
     let end = at-end (at-known c) in
-    ap (allFields (isKnown (d .names))) (parted end) ∙ first-passes (isKnown (d .names)) _ _ (is-declared (d .names) (head-field end) _ _ (head-entry (at-known c) h))
+    ap (allFields (isKnown EitherCase (d .names))) (parted end) ∙ first-passes (isKnown EitherCase (d .names)) _ _ (is-declared (d .names) (head-field end) _ _ (head-entry (at-known c) h))
     ∙ sym (body-known c h .answer-is)
 
 -- the table has room for the body
@@ -105,7 +106,7 @@ returns : tie.Need-returns
 returns c =
     let s = at-start (c .before) in
     let bad = not-false _ (sym (c .before .well-formed .ensures) ∙ not-true _ (c .if1 .taken)) in
-    λ d h. line-fault (wordStep d RuleWord (fields-of (c .before))) (rule-malformed (h .counted) (s .pre .1) _ (s .args .n) (s .pre .3) (s .pre .2) bad) (λ z. omega arith)
+    λ d text lengths h. line-fault (wordStep d RuleWord (fields-of (c .before))) (rule-malformed (h .counted) (s .pre .1) _ (s .args .n) (s .pre .3) (s .pre .2) bad) (λ z. omega arith)
 
 end-of-requires : tie.Need-end-of-requires
 end-of-requires c κs = search needs
@@ -120,7 +121,7 @@ part-known-of-end : tie.Need-part-known-of-end
 part-known-of-end c = let within = inside c in search needs
 
 known-of-requires : tie.Need-known-of-requires
-known-of-requires c κs = search needs
+known-of-requires c κs = at-start (at-forms (c .before)) .pre .0 .few-names
 
 enum-known-literal : tie.Need-enum-known-literal
 enum-known-literal c = search needs
@@ -133,16 +134,19 @@ returns-2 c =
     let looked = c .before .before in
     let end = looked .before .before in
     let s = at-start (at-forms end) in
-    λ d h. let unknown = not-declared (d .names) (head-field end) (looked-up looked h (c .enum-told .given .1)) in
+    λ d text lengths h. let unknown = not-declared (d .names) (head-field end) (looked-up looked h (c .enum-told .given .1)) in
     line-fault (wordStep d RuleWord (fields-of (at-forms end)))
-    (rule-undeclared (h .counted) (s .pre .1) _ (s .args .n) (s .pre .3) (s .pre .2) (formed end) (ap (allFields (isKnown (d .names))) (parted end) ∙ first-fails (isKnown (d .names)) _ _ unknown))
+    (rule-undeclared (h .counted) (s .pre .1) _ (s .args .n) (s .pre .3) (s .pre .2) (formed end) (ap (allFields (isKnown EitherCase (d .names))) (parted end) ∙ first-fails (isKnown EitherCase (d .names)) _ _ unknown))
     (λ z. omega arith)
 
 add-all-known : tie.Need-add-all-known
 add-all-known c = let within = inside (at-end (c .before)) in search needs
 
 all-known-requires : tie.Need-all-known-requires
-all-known-requires c κs = let within = inside (at-end (c .before)) in (omega arith, at-start (at-forms (at-end (c .before))) .pre .0 .few-literals)
+all-known-requires c κs =
+    let within = inside (at-end (c .before)) in
+    let fits = at-start (at-forms (at-end (c .before))) .pre .0 in
+    (fits .few-names, omega arith, fits .few-literals)
 
 same-length : tie.Need-same-length
 same-length c = search needs
@@ -152,7 +156,7 @@ returns-3 c =
     let body = c .before .before .before in
     let end = at-end (at-known body) in
     let s = at-start (at-forms end) in
-    λ d h. line-fault (wordStep d RuleWord (fields-of (at-forms end)))
+    λ d text lengths h. line-fault (wordStep d RuleWord (fields-of (at-forms end)))
     (rule-undeclared (h .counted) (s .pre .1) _ (s .args .n) (s .pre .3) (s .pre .2) (formed end) (known-by-body body h ∙ not-true _ (c .if2 .taken)))
     (λ z. omega arith)
 
@@ -168,7 +172,7 @@ returns-4 c =
     let body = at-body counts in
     let end = at-end (at-known body) in
     let s = at-start (at-forms end) in
-    λ d h. let known = known-by-body body h ∙ not-false _ (counts .if2 .left) in
+    λ d text lengths h. let known = known-by-body body h ∙ not-false _ (counts .if2 .left) in
     line-fault (wordStep d RuleWord (fields-of (at-forms end)))
     (⊎-elim
     (λ many. rule-too-many (h .counted) (s .pre .1) _ (s .args .n) (s .pre .3) (s .pre .2) (formed end) known (omega (arith, many .taken)))
@@ -179,8 +183,8 @@ returns-4 c =
 cast-put16 : tie.Need-cast-put16
 cast-put16 c =
     let told = at-known (at-body (c .before .before .before .before)) in
-    let a = at-start (at-forms (at-end told)) .args in
-    let small = known-small (a .text .now) (a .lengths .now) (a .t .names) _ _ _ (sym (at-head told .known-of .ensures) ∙ told .before .literal .given .1) in
+    let few = at-start (at-forms (at-end told)) .pre .0 .few-names in
+    let small = at-head told .known-of .ensures .small _ _ (told .before .literal .given .1) in
     search needs
 
 put16-requires : tie.Need-put16-requires
@@ -217,7 +221,7 @@ returns-5 c =
     let room : s .args .t .rules < maxRules = omega (arith, at-stores c .before .if3 .left) in
     let fits = body-fits (at-stores c) in
     let all-known = not-false _ (counts .if2 .left) in
-    λ d h. record {
+    λ d text lengths h. record {
       answer = (
         rule-fine (h .counted) (s .pre .1) _ (s .args .n) (s .pre .3) (s .pre .2) (formed end) (known-by-body body h ∙ all-known) room fits,
         rule-held h (head-field end) (others end) (parted end) (s .args .n) (s .pre .3) room fits,

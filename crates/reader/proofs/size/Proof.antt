@@ -23,6 +23,12 @@ slice-aggregate-read-file-4 c = search needs
 slice-aggregate-read-file-5 : tie.Need-slice-aggregate-read-file-5
 slice-aggregate-read-file-5 c = search needs
 
+slice-aggregate-read-file-6 : tie.Need-slice-aggregate-read-file-6
+slice-aggregate-read-file-6 c = search needs
+
+slice-aggregate-read-file-7 : tie.Need-slice-aggregate-read-file-7
+slice-aggregate-read-file-7 c = search needs
+
 read-file-requires : tie.Need-read-file-requires
 read-file-requires c κs = nothing-held
 
@@ -34,13 +40,13 @@ enum-known-number c = search needs
 
 returns : tie.Need-returns
 returns c =
-    let read = c .before .before .before .before .before .before .before .before in
+    let read = c .before .before .before .before .before .before .before .before .before .before in
     let fine = file-fine (read .read-file .ensures) (c .before .t .given .1) in
     counted-size (fine .held) ∙ ap sizeOf (sym (fine .outcome))
 
 returns-2 : tie.Need-returns-2
 returns-2 c =
-    let read = c .before .before .before .before .before .before .before .before in
+    let read = c .before .before .before .before .before .before .before .before .before .before in
     sym (ap sizeOf (file-fault (read .read-file .ensures) (c .before .number .given .1)) ∙ refused-size _ _)
 
 pub size-spec : {M : Type 1} → statement M
@@ -52,6 +58,8 @@ size-spec =
     slice-aggregate-read-file-3
     slice-aggregate-read-file-4
     slice-aggregate-read-file-5
+    slice-aggregate-read-file-6
+    slice-aggregate-read-file-7
     read-file-requires
     enum-known-t
     enum-known-number

@@ -12,6 +12,7 @@ use Rattle.scan.specs.Text.{comma, rest, fields, tildes, formOf}
 use Rattle.scan.specs.declared.Form.the-variants.{Literal}
 use Rattle.scan.specs.declared.Word.the-variants.{Rule as RuleWord}
 use Rattle.scan.proofs.Forms.{lead-most, malformed-form, literal-form, form-tildes}
+use Rattle.scan.specs.declared.Alphabet.the-variants.{EitherCase}
 use Rattle.reader.specs.File.{malformed}
 use Rattle.reader.proofs.Fields.{first-field, head-malformed, head-tilde, head-formed}
 use Rattle.reader.proofs.well_formed.Statement.{statement}
@@ -27,8 +28,8 @@ head-field c = take (c .end-of .result - 0) (drop 0 (rule-of c))
 abbrev others : tie.After-end-of → List (List ℕ)
 others c = rest comma (rule-of c) (c .end-of .result + 1)
 
-joined : (c : tie.After-end-of) → not (malformed RuleWord (head-field c ∷ others c)) ≡ not (malformed RuleWord (fields (rule-of c)))
-joined c = ap (λ (fs : List (List ℕ)). not (malformed RuleWord fs)) (sym (first-field (rule-of c) (c .end-of .result) (c .end-of .ensures .0)))
+joined : (c : tie.After-end-of) → not (malformed EitherCase RuleWord (head-field c ∷ others c)) ≡ not (malformed EitherCase RuleWord (fields (rule-of c)))
+joined c = ap (λ (fs : List (List ℕ)). not (malformed EitherCase RuleWord fs)) (sym (first-field (rule-of c) (c .end-of .result) (c .end-of .ensures .0)))
 
 inside : (c : tie.After-end-of) → c .end-of .result ≤ length (rule-of c)
 inside c = c .end-of .ensures .2 zero-le
@@ -37,7 +38,7 @@ inside c = c .end-of .ensures .2 zero-le
 abbrev at-end : tie.After-known-told → tie.After-end-of
 at-end c = c .before .before .before .before .before
 
-head-form : (c : tie.After-known-told) → formOf (head-field (at-end c)) ≡ Literal (c .before .tildes .given .0 .0) (c .before .tildes .given .0 .1 .0)
+head-form : (c : tie.After-known-told) → formOf EitherCase (head-field (at-end c)) ≡ Literal (c .before .tildes .given .0 .0) (c .before .tildes .given .0 .1 .0)
 head-form c = sym (c .before .before .before .form-of .ensures) ∙ c .before .tildes .given .1
 
 end-of-requires : tie.Need-end-of-requires
@@ -64,12 +65,12 @@ enum-told c = search needs
 returns : tie.Need-returns
 returns c =
     let end = c .before .before .before .before in
-    head-malformed (head-field end) (others end) (malformed-form _ (sym (c .before .before .form-of .ensures) ∙ c .enum-told .given .1)) ∙ joined end
+    head-malformed (head-field end) (others end) (malformed-form EitherCase _ (sym (c .before .before .form-of .ensures) ∙ c .enum-told .given .1)) ∙ joined end
 
 returns-2 : tie.Need-returns-2
 returns-2 c =
     let end = at-end (c .before) in
-    let marked = form-tildes (head-field end) _ _ (head-form (c .before)) in
+    let marked = form-tildes EitherCase (head-field end) _ _ (head-form (c .before)) in
     let one : tildes (head-field end) ≡ 1 = omega (arith, lead-most 126 (head-field end), c .if1 .taken) in
     head-tilde (head-field end) (others end) (eq-eqb _ 1 one) ∙ joined end
 
@@ -83,8 +84,8 @@ returns-3 : tie.Need-returns-3
 returns-3 c =
     let told = c .before .before in
     let end = at-end told in
-    let plain = ap (λ (n : ℕ). eqb n 1) (form-tildes (head-field end) _ _ (head-form told) ∙ c .before .if1 .left) in
-    c .all-literals .ensures ∙ head-formed (head-field end) (others end) (literal-form _ _ _ (head-form told)) plain ∙ joined end
+    let plain = ap (λ (n : ℕ). eqb n 1) (form-tildes EitherCase (head-field end) _ _ (head-form told) ∙ c .before .if1 .left) in
+    c .all-literals .ensures ∙ head-formed (head-field end) (others end) (literal-form EitherCase _ _ _ (head-form told)) plain ∙ joined end
 
 pub well-formed-spec : {M : Type 1} → statement M
 well-formed-spec =

@@ -6,12 +6,13 @@ use Prim.Native.Nat.{_≤_, _-_}
 use lib.ListN.{length, drop, getD}
 use borrow.Author.Tests.{not-true, not-false}
 use Rattle.scan.specs.Text.{allBytes, inName, classOf}
+use Rattle.scan.specs.declared.Alphabet.the-variants.{EitherCase}
 use Rattle.scan.proofs.Bytes.{bytes-stop, bytes-go, bytes-end}
 use Rattle.scan.proofs.all_in_name.Statement.{statement}
 use Rattle.scan.proofs.all_in_name.Tie as tie
 
 abbrev Inv-loop : tie.InvT-loop
-Inv-loop s i₀ i = (i ≤ length s) × (allBytes (λ b. inName (classOf b)) (drop i s) ≡ allBytes (λ b. inName (classOf b)) s)
+Inv-loop s i₀ i = (i ≤ length s) × (allBytes (λ b. inName EitherCase (classOf b)) (drop i s) ≡ allBytes (λ b. inName EitherCase (classOf b)) s)
 
 abbrev μ-loop : tie.MeasureT-loop
 μ-loop s i₀ i = length s - i
@@ -32,9 +33,9 @@ returns : tie.Need-returns Inv-loop μ-loop
 returns c =
     let at = c .before .before .before .before .before in
     let s = at .before .before .args .s .now in
-    let e : inName (classOf (getD s (at .loop .i) 0)) ≡ false =
-    ap inName (sym (c .before .before .class-of .ensures)) ∙ sym (c .before .in-name .ensures) ∙ not-true (c .before .in-name .result) (c .if1 .taken) in
-    sym (bytes-stop (λ b. inName (classOf b)) s (at .loop .i) (c .before .before .before .before .loop-test .taken) e) ∙ at .loop .inv .1
+    let e : inName EitherCase (classOf (getD s (at .loop .i) 0)) ≡ false =
+    ap (inName EitherCase) (sym (c .before .before .class-of .ensures)) ∙ sym (c .before .in-name .ensures) ∙ not-true (c .before .in-name .result) (c .if1 .taken) in
+    sym (bytes-stop (λ b. inName EitherCase (classOf b)) s (at .loop .i) (c .before .before .before .before .loop-test .taken) e) ∙ at .loop .inv .1
 
 add-i : tie.Need-add-i Inv-loop μ-loop
 add-i c = search needs
@@ -46,14 +47,14 @@ loop-again : tie.Need-loop-again Inv-loop μ-loop
 loop-again c =
     let at = c .before .before .before .before .before in
     let s = at .before .before .args .s .now in
-    let e : inName (classOf (getD s (at .loop .i) 0)) ≡ true =
-    ap inName (sym (c .before .before .class-of .ensures)) ∙ sym (c .before .in-name .ensures) ∙ not-false (c .before .in-name .result) (c .if1 .left) in
-    (search needs, sym (bytes-go (λ b. inName (classOf b)) s (at .loop .i) (c .before .before .before .before .loop-test .taken) e) ∙ at .loop .inv .1)
+    let e : inName EitherCase (classOf (getD s (at .loop .i) 0)) ≡ true =
+    ap (inName EitherCase) (sym (c .before .before .class-of .ensures)) ∙ sym (c .before .in-name .ensures) ∙ not-false (c .before .in-name .result) (c .if1 .left) in
+    (search needs, sym (bytes-go (λ b. inName EitherCase (classOf b)) s (at .loop .i) (c .before .before .before .before .loop-test .taken) e) ∙ at .loop .inv .1)
 
 returns-2 : tie.Need-returns-2 Inv-loop μ-loop
 returns-2 c =
     let at = c .before in
-    sym (bytes-end (λ b. inName (classOf b)) (at .before .before .args .s .now) (at .loop .i) (c .loop-test .left)) ∙ at .loop .inv .1
+    sym (bytes-end (λ b. inName EitherCase (classOf b)) (at .before .before .args .s .now) (at .loop .i) (c .loop-test .left)) ∙ at .loop .inv .1
 
 pub all-in-name-spec : {M : Type 1} → statement M
 all-in-name-spec =

@@ -1,6 +1,7 @@
 -- `form_of`: the name is what is left behind the marks.
 use borrow.Author.Needs.{needs}
 use mathlib.Core.Path.{sym, _∙_}
+use Rattle.scan.specs.declared.Alphabet.the-variants.{EitherCase}
 use Rattle.scan.proofs.Forms.{form-malformed, form-literal}
 use Rattle.scan.proofs.form_of.Statement.{statement}
 use Rattle.scan.proofs.form_of.Tie as tie
@@ -26,12 +27,12 @@ is-name-requires c κs = search needs
 returns : tie.Need-returns
 returns c =
     let m = c .before .before .before .before .marks-of in
-    sym (form-literal (c .before .before .before .before .before .before .args .f .now) (m .result .tildes) (m .result .minuses) (m .ensures .0) (m .ensures .1) (sym (c .before .is-name .ensures) ∙ c .if1 .taken))
+    sym (form-literal (c .before .before .before .before .before .before .args .f .now) (m .result .tildes) (m .result .minuses) (m .ensures .0) (m .ensures .1) EitherCase (sym (c .before .is-name .ensures) ∙ c .if1 .taken))
 
 returns-2 : tie.Need-returns-2
 returns-2 c =
     let m = c .before .before .before .before .marks-of in
-    sym (form-malformed (c .before .before .before .before .before .before .args .f .now) (m .result .tildes) (m .result .minuses) (m .ensures .0) (m .ensures .1) (sym (c .before .is-name .ensures) ∙ c .if1 .left))
+    sym (form-malformed (c .before .before .before .before .before .before .args .f .now) (m .result .tildes) (m .result .minuses) (m .ensures .0) (m .ensures .1) EitherCase (sym (c .before .is-name .ensures) ∙ c .if1 .left))
 
 pub form-of-spec : {M : Type 1} → statement M
 form-of-spec =

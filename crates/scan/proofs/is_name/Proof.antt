@@ -5,15 +5,16 @@ use mathlib.Core.Bool.{true, false}
 use lib.ListN.{getD}
 use borrow.Author.Tests.{not-true, not-false}
 use Rattle.scan.specs.Text.{isLetter, classOf}
-use Rattle.scan.proofs.Bytes.{name-none, name-long, name-first, name-rest}
+use Rattle.scan.specs.declared.Alphabet.the-variants.{EitherCase}
+use Rattle.scan.proofs.Names.{name-none, name-long, name-first, name-rest}
 use Rattle.scan.proofs.is_name.Statement.{statement}
 use Rattle.scan.proofs.is_name.Tie as tie
 
 returns : tie.Need-returns
-returns c = sym (name-none _ (c .if1 .taken))
+returns c = sym (name-none EitherCase _ (c .if1 .taken))
 
 returns-2 : tie.Need-returns-2
-returns-2 c = sym (name-long _ (c .if2 .taken))
+returns-2 c = sym (name-long EitherCase _ (c .if2 .taken))
 
 shared-slice-read-class-of : tie.Need-shared-slice-read-class-of
 shared-slice-read-class-of c = search needs
@@ -28,9 +29,9 @@ returns-3 : tie.Need-returns-3
 returns-3 c =
     let at = c .before .before .before .before in
     let s = at .before .before .before .args .s .now in
-    let e : isLetter (classOf (getD s 0 0)) ≡ false =
-    ap isLetter (sym (c .before .before .class-of .ensures)) ∙ sym (c .before .is-letter .ensures) ∙ not-true (c .before .is-letter .result) (c .if3 .taken) in
-    sym (name-first s e)
+    let e : isLetter EitherCase (classOf (getD s 0 0)) ≡ false =
+    ap (isLetter EitherCase) (sym (c .before .before .class-of .ensures)) ∙ sym (c .before .is-letter .ensures) ∙ not-true (c .before .is-letter .result) (c .if3 .taken) in
+    sym (name-first EitherCase s e)
 
 sub-all-in-name : tie.Need-sub-all-in-name
 sub-all-in-name c = search needs
@@ -49,9 +50,9 @@ returns-4 c =
     let d = c .before .before in
     let at = d .before .before .before .before in
     let s = at .before .before .before .args .s .now in
-    let e : isLetter (classOf (getD s 0 0)) ≡ true =
-    ap isLetter (sym (d .before .before .class-of .ensures)) ∙ sym (d .before .is-letter .ensures) ∙ not-false (d .before .is-letter .result) (d .if3 .left) in
-    c .all-in-name .ensures ∙ sym (name-rest s (at .before .if1 .left) (at .if2 .left) e)
+    let e : isLetter EitherCase (classOf (getD s 0 0)) ≡ true =
+    ap (isLetter EitherCase) (sym (d .before .before .class-of .ensures)) ∙ sym (d .before .is-letter .ensures) ∙ not-false (d .before .is-letter .result) (d .if3 .left) in
+    c .all-in-name .ensures ∙ sym (name-rest EitherCase s (at .before .if1 .left) (at .if2 .left) e)
 
 pub is-name-spec : {M : Type 1} → statement M
 is-name-spec =

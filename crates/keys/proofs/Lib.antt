@@ -1,0 +1,3 @@
+-- The laws of the table of keys.
+pub mod Found
+pub mod Declared

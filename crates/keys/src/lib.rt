@@ -1,0 +1,113 @@
+// The names of a file while it is read: a key for each, and for a key the name to look at first. A name is looked up in a few steps, wherever it
+// was declared.
+ghost use mathlib.Core.Path.{_≡_};
+ghost use mathlib.Core.List.{List, [], _∷_, _++_};
+ghost use Prim.Native.Nat.{ℕ, _≤_, _<_};
+ghost use lib.ListN.{length, getD};
+ghost use Rattle.scan.specs.Text.{maxLength, sameKey};
+ghost use Rattle.scan.specs.declared.Alphabet.the-variants.{EitherCase};
+ghost use Rattle.book.specs.Limits.{maxNames};
+ghost use Rattle.book.specs.Book.{find};
+ghost use Rattle.book.specs.declared.Found.the-variants.{Nothing};
+ghost use Rattle.keys.specs.Keyed.{keyAt, withKey, KeyFor, Keyed, LookedUp};
+use book::Found;
+use scan::Key;
+
+// A key takes three numbers: length, first and second word.
+pub const MAX_KEYS: usize = 3 * book::MAX_NAMES;
+
+// The hints: more than there are names, so that few names share one.
+pub const MAX_HINTS: usize = 1024;
+
+// The number at place i, or 0 past the end.
+fn number_at(keys: &[u64], i: usize) -> u64
+    ensures { λ r. ⌜ r ≡ getD (now (keys .entry)) i 0 ⌝ }
+{
+    if i < keys.len() {
+        return keys[i];
+    }
+    0
+}
+
+// Whether name k has the key.
+fn has(keys: &[u64], k: usize, key: Key) -> bool
+    requires { ⌜ k ≤ 255 ⌝ }
+    ensures { λ r. ⌜ r ≡ sameKey (keyAt (now (keys .entry)) k) key ⌝ }
+{
+    let own = Key {
+        length: number_at(keys, 3 * k) as usize,
+        first: number_at(keys, 3 * k + 1),
+        second: number_at(keys, 3 * k + 2),
+    };
+    scan::same_key(own, key)
+}
+
+// The number of the first of `count` names that has the key.
+fn first_with(keys: &[u64], count: usize, key: Key) -> Found
+    ensures { λ r. ⌜ LookedUp (now (keys .entry)) count key r ⌝ }
+{
+    // No file has so many.
+    if book::MAX_NAMES < count {
+        return Found::Nothing;
+    }
+    let mut k = 0;
+    while k < count {
+        if has(keys, k, key) {
+            return Found::At(k);
+        }
+        k += 1;
+    }
+    Found::Nothing
+}
+
+// ---- hints: whatever they say, the names that they lead to are compared by their keys
+
+// Where the hint for a key stands. The prime spreads the names; which place it is matters to speed alone.
+fn hint_place(key: Key) -> usize
+    ensures { λ r. ⌜ r ≤ 1020 ⌝ }
+{
+    ((key.first ^ key.second) % 1021) as usize
+}
+
+// The name to look at first.
+fn hint_at(hints: &[u8], i: usize) -> usize
+    ensures { λ r. ⌜ r ≤ 255 ⌝ }
+{
+    if i < hints.len() {
+        return hints[i] as usize;
+    }
+    0
+}
+
+// The number of the name with the key among `count` names.
+pub fn find(keys: &[u64], hints: &[u8], count: usize, key: Key) -> Found
+    ensures { λ r. ⌜ LookedUp (now (keys .entry)) count key r ⌝ }
+{
+    let k = hint_at(hints, hint_place(key));
+    if k < count {
+        if has(keys, k, key) {
+            return Found::At(k);
+        }
+    }
+    first_with(keys, count, key)
+}
+
+fn put_key(keys: &mut [u64], k: usize, key: Key)
+    requires { ⌜ k < maxNames ⌝ }
+    ensures { λ r. ⌜ now (keys .exit) ≡ withKey (now (keys .entry)) k key ⌝ }
+{
+    store::put64(keys, 3 * k, key.length as u64);
+    store::put64(keys, 3 * k + 1, key.first);
+    store::put64(keys, 3 * k + 2, key.second);
+}
+
+// Name k is declared: it has the key, and is the name to look at first for it.
+pub fn put(keys: &mut [u64], hints: &mut [u8], k: usize, key: Key)
+    ensures { λ r. ⌜ ((names : List (List ℕ)) (n : List ℕ) → Keyed names (now (keys .entry)) → k ≡ length names → k < maxNames → KeyFor key n
+        → length n ≤ maxLength → find EitherCase names n ≡ Nothing → Keyed (names ++ (n ∷ [])) (now (keys .exit))) ⌝ }
+{
+    if k < book::MAX_NAMES {
+        put_key(keys, k, key);
+        store::put8(hints, hint_place(key), k as u8);
+    }
+}
