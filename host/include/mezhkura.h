@@ -12,6 +12,8 @@
  *
  * A file of no bytes is a book of no names and no rules: it loads.
  *
+ * Names that differ only in case are one name. The listing has the spelling of the line that declares it.
+ *
  * mezhkura_size takes no desk. It says how many names, rules and body literals a file fills, and refuses exactly the
  * files that a load refuses, with the same number and line.
  *

@@ -148,9 +148,9 @@ pub enum Fault {
     Fields,
     /// 5: a malformed name or literal, or a head with `~`.
     Malformed,
-    /// 6: a name declared before.
+    /// 6: a name declared before, in the same or in other capitals.
     DeclaredBefore,
-    /// 7: a rule uses an undeclared name.
+    /// 7: a rule uses a name that isn't declared, in the same or in other capitals.
     Undeclared,
     /// 8: one name, rule or body literal beyond the table.
     TableFull,

@@ -63,7 +63,7 @@ impl Desk {
     }
 
     /// Makes a marking file's names and rules the book, and empties the facts. A file of no bytes is a book
-    /// of no names and no rules.
+    /// of no names and no rules. Names that differ only in case are one name.
     ///
     /// Refused with numbers 1 to 9 and a line.
     pub fn load(&mut self, file: &[u8]) -> Result<(), Refused> {
@@ -121,7 +121,8 @@ impl Desk {
         })
     }
 
-    /// Writes the listing to the buffer's first bytes and answers its length; the bytes after it stay.
+    /// Writes the listing to the buffer's first bytes and answers its length; the bytes after it stay. A
+    /// name is spelt as on the line that declares it.
     ///
     /// Refused with 20, or with 25 where the buffer is shorter than the listing.
     pub fn listing(&self, buffer: &mut [u8]) -> Result<usize, Refused> {

@@ -1,7 +1,8 @@
-//! The edges that document 01 names under "Run", and every refusal number with its line.
+//! The edges that document 01 names under "Run", every refusal number with its line, and what document 02
+//! adds to them.
 
 use mezhkura::answer::{Question, Refused, Tree, Verdict};
-use mezhkura::second::{program_output, size, Desk};
+use mezhkura::second::{program_output, read, size, Desk};
 
 fn declared(names: usize) -> String {
     (0..names).map(|n| format!("name,n{n}\n")).collect()
@@ -100,6 +101,29 @@ fn name_lengths_16_and_17() {
 }
 
 #[test]
+fn name_lengths_16_and_17_with_capitals() {
+    let small = |length: usize| "x".repeat(length);
+    for capitals in ["X", "xX"] {
+        let name = |length: usize| capitals.repeat(length)[..length].to_string();
+        for length in [1, 16] {
+            let (declared, used) = (name(length), small(length));
+            let file = format!("name,{declared}\nrule,{used},~-{declared}\nend\n");
+            assert_loads(&file, 1, 1);
+            let again = format!("name,{declared}\nname,{used}\nend\n");
+            assert_refused(again, 6, 2);
+        }
+        assert_refused(format!("name,{}\nend\n", name(17)), 5, 1);
+        assert_refused(format!("name,a\nrule,a,~-{}\nend\n", name(17)), 5, 2);
+        assert_refused(format!("name,a\nrule,a,~-{}\nend\n", name(16)), 7, 2);
+        // Names of other lengths are other names.
+        for (one, other) in [(small(15), name(16)), (small(16), name(15))] {
+            assert_loads(&format!("name,{one}\nname,{other}\nend\n"), 2, 0);
+            assert_refused(format!("name,{one}\nrule,{other}\nend\n"), 7, 2);
+        }
+    }
+}
+
+#[test]
 fn bytes_60000_and_60001() {
     // A line of commas has too many fields, so the whole file is looked at and then line 1.
     let commas = |bytes: usize| ",".repeat(bytes - 1) + "\n";
@@ -151,20 +175,76 @@ fn number_1_comes_before_2_and_3() {
     assert_refused(&file, 3, 0);
 }
 
+fn assert_output(file: &[u8], expected: &str) {
+    assert_eq!(
+        program_output(file),
+        expected,
+        "\"{}\"",
+        file.escape_ascii()
+    );
+}
+
+/// Every byte at the first place of a declared name, and behind another one.
 #[test]
-fn number_2_is_given_for_bytes_outside_10_and_32_to_126() {
+fn a_declared_name_has_letters_and_behind_the_first_digits_and_underscores() {
     for byte in 0..=255u8 {
-        let file = [b"name,", &[byte][..], b"\nend\n"].concat();
-        let expected = match byte {
-            b'a'..=b'z' => "model,1,0,0\n0,".to_string(),
+        let listed = |name: &str| format!("model,1,0,0\n0,{name},false,false\n");
+        let spelt = char::from(byte);
+        let first = match byte {
+            b'A'..=b'Z' | b'a'..=b'z' => listed(&format!("{spelt}")),
             10 => refused(5, 1),
             b',' => refused(4, 1),
             32..=126 => refused(5, 1),
             _ => refused(2, 0),
         };
-        assert!(program_output(&file).starts_with(&expected), "byte {byte}");
+        assert_output(&[b"name,", &[byte][..], b"\nend\n"].concat(), &first);
+        let later = match byte {
+            b'A'..=b'Z' | b'a'..=b'z' | b'0'..=b'9' | b'_' => listed(&format!("b{spelt}")),
+            10 => refused(4, 2),
+            b',' => refused(4, 1),
+            32..=126 => refused(5, 1),
+            _ => refused(2, 0),
+        };
+        assert_output(&[b"name,b", &[byte][..], b"\nend\n"].concat(), &later);
     }
     assert_refused(b"\xFF", 2, 0);
+}
+
+/// Every byte at the first place of a name that a rule uses, and behind another one. The declared names
+/// are `k` and `bK`.
+#[test]
+fn a_used_name_has_letters_and_behind_the_first_digits_and_underscores() {
+    let outcome = |field: &str, byte: u8| {
+        let file = [b"name,k\nname,bK\n", field.as_bytes(), &[byte], b"\nend\n"].concat();
+        read(&file).map_or_else(|refused| refused.number(), |_| 0)
+    };
+    let fields = [
+        "rule,",
+        "rule,-",
+        "rule,k,",
+        "rule,k,-",
+        "rule,k,~",
+        "rule,k,~-",
+    ];
+    for (byte, field) in (0..=255u8).flat_map(|byte| fields.map(|field| (byte, field))) {
+        let first = match byte {
+            b'K' | b'k' => 0,
+            b'A'..=b'Z' | b'a'..=b'z' => 7,
+            10 | 32..=126 => 5,
+            _ => 2,
+        };
+        assert_eq!(outcome(field, byte), first, "{field}, byte {byte}");
+        let later = match byte {
+            b'K' | b'k' => 0,
+            b'A'..=b'Z' | b'a'..=b'z' | b'0'..=b'9' | b'_' => 7,
+            // The line ends behind `b`, which isn't declared.
+            10 => 7,
+            32..=126 => 5,
+            _ => 2,
+        };
+        let field = format!("{field}b");
+        assert_eq!(outcome(&field, byte), later, "{field}, byte {byte}");
+    }
 }
 
 #[test]
@@ -193,8 +273,14 @@ fn a_file_of_no_bytes_loads_and_one_of_one_byte_does_not() {
 #[test]
 fn number_4_is_given_for_first_fields_and_counts() {
     for line in [
-        "", " ", ",", "names,a", "nam,a", "Name,a", " name,a", "name", "name,a,b", "name,a,",
-        "rule", "end,", "end ", "ends", "en", "end,end", "model,1",
+        "", " ", ",", "names,a", "nam,a", " name,a", "name", "name,a,b", "name,a,", "rule", "end,",
+        "end ", "ends", "en", "end,end", "model,1",
+    ] {
+        assert_refused(format!("{line}\nend\n"), 4, 1);
+    }
+    // The first field is in small letters, as no name has to be.
+    for line in [
+        "Name,a", "NAME,a", "namE,a", "Rule,a", "ruLe,a", "End", "END", "enD",
     ] {
         assert_refused(format!("{line}\nend\n"), 4, 1);
     }
@@ -204,26 +290,56 @@ fn number_4_is_given_for_first_fields_and_counts() {
 #[test]
 fn number_5_is_given_for_names_and_literals() {
     for field in [
-        "", "9a", "_a", "A", "aB", "a-", "a b", " a", "a ", "-", "-a", "~a", "a.b",
+        "", "9a", "_a", "a-", "a b", " a", "a ", "-", "-a", "~a", "a.b", "9A", "_A", "A-", "A b",
+        " A", "-A", "~A",
     ] {
         assert_refused(format!("name,{field}\nend\n"), 5, 1);
     }
+    // The bytes beside the letters are none.
+    for field in ["@", "[", "`", "{", "A@", "Z[", "a`", "z{"] {
+        assert_refused(format!("name,{field}\nend\n"), 5, 1);
+    }
     for field in [
-        "", "~", "-", "~-", "~~a", "--a", "-~a", "~-~a", "~ a", "a~", "A", "9", "~-A",
+        "", "~", "-", "~-", "~~a", "--a", "-~a", "~-~a", "~ a", "a~", "9", "~~A", "--A", "-~A",
+        "~-~A", "~ A", "A~", "~-9A", "@", "-[", "A`", "-A{",
     ] {
         assert_refused(format!("name,a\nrule,a,{field}\nend\n"), 5, 2);
         assert_refused(format!("name,a\nrule,{field}\nend\n"), 5, 2);
     }
     assert_refused("name,a\nrule,~a\nend\n", 5, 2);
     assert_refused("name,a\nrule,~-a,a\nend\n", 5, 2);
+    assert_refused("name,a\nrule,~A\nend\n", 5, 2);
+    assert_refused("name,A\nrule,~-A,a\nend\n", 5, 2);
     assert_loads("name,a\nrule,-a,a,~a,-a,~-a\nend\n", 1, 1);
+    assert_loads("name,a\nrule,-A,A,~A,-A,~-A\nend\n", 1, 1);
     assert_loads("name,z_09\nend\n", 1, 0);
+    assert_loads("name,Z_09_zZ\nend\n", 1, 0);
 }
 
 #[test]
 fn number_6_is_given_for_a_name_declared_before() {
     assert_refused("name,a\nname,b\nname,a\nend\n", 6, 3);
     assert_refused(declared(128) + "name,n0\nend\n", 6, 129);
+}
+
+/// Document 02, A.2.
+#[test]
+fn number_6_is_given_for_a_name_declared_before_in_other_capitals() {
+    assert_refused("name,brake_held\nname,Brake_Held\nend\n", 6, 2);
+    assert_refused("name,Brake_Held\nname,brake_held\nend\n", 6, 2);
+    assert_refused("name,bRAKE_hELD\nname,b\nname,Brake_Held\nend\n", 6, 3);
+    assert_refused(declared(128) + "name,N0\nend\n", 6, 129);
+    assert_refused(declared(128) + "name,N127\nend\n", 6, 129);
+    assert_refused(declared(128) + "name,N128\nend\n", 8, 129);
+    for letter in 'a'..='z' {
+        let capital = letter.to_ascii_uppercase();
+        assert_refused(format!("name,{letter}\nname,{capital}\nend\n"), 6, 2);
+        assert_refused(format!("name,q{capital}\nname,q{letter}\nend\n"), 6, 2);
+    }
+    // Letters, digits and underscore are 37 names, whichever of the letters are capitals.
+    let last_bytes = ('A'..='M').chain('n'..='z').chain('0'..='9').chain(['_']);
+    let names: String = last_bytes.map(|last| format!("name,q{last}\n")).collect();
+    assert_loads(&format!("{names}end\n"), 37, 0);
 }
 
 #[test]
@@ -233,13 +349,55 @@ fn number_7_is_given_for_a_name_declared_later_or_never() {
     assert_refused("name,a\nrule,-b\nend\n", 7, 2);
     assert_refused("name,a\nrule,a,~-b\nname,b\nend\n", 7, 2);
     // A malformed field comes before an undeclared name to its left.
-    assert_refused("name,a\nrule,b,A\nend\n", 5, 2);
+    assert_refused("name,a\nrule,b,@\nend\n", 5, 2);
     // An undeclared name comes before a full table.
     assert_refused(
         format!("name,a\n{}rule,b\nend\n", "rule,a\n".repeat(512)),
         7,
         514,
     );
+}
+
+/// Document 02, A.2.
+#[test]
+fn number_7_is_given_for_no_other_capitals_than_the_declaration() {
+    let declared = "name,Brake_Held\nname,belt_on\n";
+    for rule in [
+        "rule,Brake_Held",
+        "rule,BRAKE_HELD",
+        "rule,-brake_held,Belt_On",
+        "rule,bRAKE_hELD,~BELT_ON,-Belt_on,~-belt_oN",
+    ] {
+        assert_loads(&format!("{declared}{rule}\nend\n"), 2, 1);
+    }
+    for rule in [
+        "rule,Brake",
+        "rule,BRAKE_HELD_",
+        "rule,BRAKEHELD",
+        "rule,belt_on,~-Door_Open",
+        "rule,Door_Open,BELT_ON",
+    ] {
+        assert_refused(format!("{declared}{rule}\nend\n"), 7, 3);
+    }
+    assert_refused("rule,a\nname,A\nend\n", 7, 1);
+    assert_refused("name,a\nrule,A,~B\nname,b\nend\n", 7, 2);
+    assert_refused("name,a\nrule,B,@\nend\n", 5, 2);
+    let full = "rule,A\n".repeat(512);
+    assert_refused(format!("name,a\n{full}rule,B\nend\n"), 7, 514);
+    assert_refused(format!("name,a\n{full}rule,A\nend\n"), 8, 514);
+}
+
+/// Document 02, A.2.
+#[test]
+fn the_listing_has_the_spelling_of_the_declaring_line() {
+    let lines = "name,Brake_Held\nname,MAY_PARK\nname,chocks_set\n\
+        rule,BRAKE_HELD\nrule,may_park,brake_held,~Chocks_Set\n";
+    let listing = "model,3,2,0\n0,Brake_Held,true,false\n1,MAY_PARK,true,false\n\
+        2,chocks_set,false,false\n";
+    assert_output(format!("{lines}end\n").as_bytes(), listing);
+    // A contradiction names the name in the same spelling.
+    let clash = format!("{lines}rule,-bRAKE_hELD\nend\n");
+    assert_output(clash.as_bytes(), "contradiction,3,3,0,Brake_Held\n");
 }
 
 #[test]
@@ -252,8 +410,8 @@ fn number_9_is_given_after_end_and_without_it() {
     assert_refused("end\nnonsense\n\n", 9, 2);
     assert_refused("name,a\nend\nname,a\n", 9, 3);
     // A fault of an earlier line decides.
-    assert_refused("name,A\nend\nname,a\n", 5, 1);
-    assert_refused("name,A\n", 5, 1);
+    assert_refused("name,9\nend\nname,a\n", 5, 1);
+    assert_refused("name,9\n", 5, 1);
 }
 
 fn desk(file: &str) -> Desk {

@@ -1,4 +1,4 @@
-//! A marking book (document 01, "The marking file").
+//! A marking book (document 01, "The marking file"; document 02, A.2).
 
 use crate::answer::BookSize;
 
@@ -34,6 +34,7 @@ pub struct Rule {
 /// The names and rules of a file, in file order.
 #[derive(Clone, Debug, Default, PartialEq, Eq)]
 pub struct Book {
+    /// Each name as the line that declares it spells it.
     pub names: Vec<String>,
     pub rules: Vec<Rule>,
 }
@@ -57,12 +58,14 @@ impl Book {
         }
     }
 
-    /// The number of a declared name.
+    /// The number of a declared name. Names that differ only in case are one name.
     pub fn number_of(&self, name: &str) -> Option<usize> {
-        self.names.iter().position(|declared| declared == name)
+        self.names
+            .iter()
+            .position(|declared| declared.eq_ignore_ascii_case(name))
     }
 
-    /// The marking file that this book is read from.
+    /// A marking file that this book is read from: its rules spell the names as they are declared.
     pub fn to_file(&self) -> String {
         let mut file = String::new();
         for name in &self.names {

@@ -1,11 +1,11 @@
-//! The listing (document 01, "The listing, whole").
+//! The listing (document 01, "The listing, whole"; document 02, A.2).
 
 use super::book::Book;
 use super::model::{contradictory_name, verdict, Program};
 use super::reader::read;
 use std::collections::BTreeSet;
 
-/// The listing of a lesson.
+/// The listing of a lesson. A name is spelt as on the line that declares it.
 pub fn listing(book: &Book, facts: &BTreeSet<usize>) -> String {
     let halves = Program::new(book, facts).halves();
     let counts = format!("{},{},{}", book.names.len(), book.rules.len(), facts.len());

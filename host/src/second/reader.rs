@@ -1,5 +1,5 @@
 //! From the bytes of a file to a book (document 01, "The marking file" and "When a call is turned
-//! down by its input"; document 02, A.1 and A.4).
+//! down by its input"; document 02, A.1, A.2 and A.4).
 
 use super::book::{Book, Entry, Rule};
 use super::book::{MOST_BODY_LITERALS, MOST_BYTES, MOST_LETTERS, MOST_NAMES, MOST_RULES};
@@ -75,6 +75,7 @@ impl Reading {
         }
     }
 
+    /// The book keeps the spelling of this line, which the listing prints.
     fn declare(&mut self, field: &[u8]) -> Result<(), Fault> {
         let name = name_of(field)?;
         if self.book.number_of(name).is_some() {
@@ -112,6 +113,7 @@ impl Reading {
         Ok(())
     }
 
+    /// The literal of a declared name. How the rule spells the name isn't kept.
     fn entry(&self, written: &Written) -> Result<Entry, Fault> {
         let number = self.book.number_of(written.name).ok_or(Fault::Undeclared)?;
         Ok(Entry {
@@ -148,10 +150,12 @@ fn without(mark: u8, field: &[u8]) -> (bool, &[u8]) {
     }
 }
 
+/// The name in a field, as it is spelt there.
 fn name_of(field: &[u8]) -> Result<&str, Fault> {
-    let known = |byte: &u8| matches!(byte, 97..=122 | 48..=57 | 95);
+    let letter = |byte: u8| matches!(byte, 65..=90 | 97..=122);
+    let known = |byte: &u8| letter(*byte) || matches!(byte, 48..=57 | 95);
     let long_enough = (1..=MOST_LETTERS).contains(&field.len());
-    if !long_enough || !field.iter().all(known) || !matches!(field[0], 97..=122) {
+    if !long_enough || !field.iter().all(known) || !letter(field[0]) {
         return Err(Fault::Malformed);
     }
     Ok(std::str::from_utf8(field).expect("letters, digits and underscores are ASCII"))
