@@ -254,6 +254,51 @@ pub fn some_literals(random: &mut Random, book: &Book) -> Vec<usize> {
     (0..count).map(|_| random.below(book.literals())).collect()
 }
 
+/// A file of a book. Half of the files are spelt as the book is. In the others the names have capitals,
+/// other ones each time that a line declares or uses them.
+pub fn written(random: &mut Random, book: &Book) -> Vec<u8> {
+    let file = book.to_file().into_bytes();
+    if random.chance(1, 2) {
+        return file;
+    }
+    with_lines(file, |lines| {
+        for line in lines {
+            respell_names(random, line);
+        }
+    })
+}
+
+/// A file with all names, rules and body literals that a file may have.
+pub fn full_book_file(random: &mut Random) -> Vec<u8> {
+    let book = full_book(random);
+    written(random, &book)
+}
+
+/// Gives each field behind the first other capitals.
+fn respell_names(random: &mut Random, line: &mut [u8]) {
+    for field in line.split_mut(|&byte| byte == b',').skip(1) {
+        respell(random, field);
+    }
+}
+
+/// Gives the letters of a field other capitals: none, all, the first letter, or each by chance.
+fn respell(random: &mut Random, field: &mut [u8]) {
+    field.make_ascii_lowercase();
+    let how = random.below(4);
+    let letters = field.iter_mut().filter(|byte| byte.is_ascii_lowercase());
+    for (place, letter) in letters.enumerate() {
+        let capital = match how {
+            0 => false,
+            1 => true,
+            2 => place == 0,
+            _ => random.chance(1, 2),
+        };
+        if capital {
+            letter.make_ascii_uppercase();
+        }
+    }
+}
+
 fn objective(literal: usize) -> Entry {
     Entry {
         literal,
@@ -270,7 +315,8 @@ fn default(literal: usize) -> Entry {
 
 /// A file: often a book's, often a damaged one, at times a few lines of random fields.
 pub fn file(random: &mut Random, size: Size) -> Vec<u8> {
-    let written = book(random, size).to_file().into_bytes();
+    let book = book(random, size);
+    let written = written(random, &book);
     match random.below(8) {
         0..=2 => written,
         3..=6 => damaged(random, &written),
@@ -288,7 +334,7 @@ pub fn damaged(random: &mut Random, file: &[u8]) -> Vec<u8> {
 }
 
 fn damaged_once(random: &mut Random, mut file: Vec<u8>) -> Vec<u8> {
-    match random.below(11) {
+    match random.below(13) {
         0 => flip(random, &mut file),
         1 => file.truncate(random.below(file.len() + 1)),
         2 => replace_byte(random, &mut file),
@@ -299,6 +345,8 @@ fn damaged_once(random: &mut Random, mut file: Vec<u8>) -> Vec<u8> {
         7 => file = with_lines(file, |lines| drop_field(random, lines)),
         8 => file = with_lines(file, |lines| add_field(random, lines)),
         9 => file = with_lines(file, |lines| one_more(random, lines)),
+        10 => file = with_lines(file, |lines| respell_field(random, lines)),
+        11 => file = with_lines(file, |lines| declare_again(random, lines)),
         _ => file = with_lines(file, |lines| add_line(random, lines)),
     }
     file
@@ -359,6 +407,17 @@ fn repeat_line(random: &mut Random, lines: &mut Vec<Vec<u8>>) {
     }
 }
 
+/// Declares a name once more, most often in other capitals.
+fn declare_again(random: &mut Random, lines: &mut Vec<Vec<u8>>) {
+    let declares = |line: &&Vec<u8>| line.starts_with(b"name,");
+    let declaring: Vec<Vec<u8>> = lines.iter().filter(declares).cloned().collect();
+    if !declaring.is_empty() {
+        let mut line = declaring[random.below(declaring.len())].clone();
+        respell_names(random, &mut line);
+        lines.insert(random.below(lines.len() + 1), line);
+    }
+}
+
 fn add_line(random: &mut Random, lines: &mut Vec<Vec<u8>>) {
     let line = line_of_fields(random);
     lines.insert(random.below(lines.len() + 1), line);
@@ -367,8 +426,20 @@ fn add_line(random: &mut Random, lines: &mut Vec<Vec<u8>>) {
 /// One name, rule or body literal more: too many where the tables are full.
 fn one_more(random: &mut Random, lines: &mut Vec<Vec<u8>>) {
     let line = random.pick(&["name,one_more\n", "rule,brake\n", "rule,brake,~axle\n"]);
+    let mut line = line.as_bytes().to_vec();
+    if random.chance(1, 2) {
+        respell_names(random, &mut line);
+    }
     let before_end = lines.len().saturating_sub(1);
-    lines.insert(before_end, line.as_bytes().to_vec());
+    lines.insert(before_end, line);
+}
+
+/// Gives a field other capitals: a name stays the same name, a first field becomes an unknown one.
+fn respell_field(random: &mut Random, lines: &mut [Vec<u8>]) {
+    change_fields(random, lines, |random, fields| {
+        let place = random.below(fields.len());
+        respell(random, &mut fields[place]);
+    });
 }
 
 /// Removes a field of a line, with the comma before or behind it.
@@ -407,7 +478,7 @@ fn change_fields(
     lines[place].push(b'\n');
 }
 
-/// A field that is a word, a literal, or nearly one.
+/// A field that is a word, a literal, or nearly one, at times with capitals.
 fn field(random: &mut Random) -> Vec<u8> {
     const FIELDS: &[&str] = &[
         "",
@@ -430,7 +501,8 @@ fn field(random: &mut Random) -> Vec<u8> {
         "~-",
         "light ",
         " light",
-        "Light",
+        "@light",
+        "light[",
         "9light",
         "_light",
         "light_9",
@@ -440,11 +512,18 @@ fn field(random: &mut Random) -> Vec<u8> {
         "~-a234567890123456",
         "~-a2345678901234567",
     ];
-    random.pick(FIELDS).as_bytes().to_vec()
+    let mut field = random.pick(FIELDS).as_bytes().to_vec();
+    if random.chance(1, 3) {
+        respell(random, &mut field);
+    }
+    field
 }
 
 fn line_of_fields(random: &mut Random) -> Vec<u8> {
-    let first = random.pick(&["name", "rule", "rule", "end", "", "rules"]);
+    const FIRST: &[&str] = &[
+        "name", "name", "rule", "rule", "rule", "end", "", "rules", "Name",
+    ];
+    let first = random.pick(FIRST);
     let mut line = first.as_bytes().to_vec();
     for _ in 0..random.pick(&[0, 1, 1, 2, 3, 16, 17, 18]) {
         line.push(b',');
@@ -465,7 +544,7 @@ fn some_lines(random: &mut Random) -> Vec<u8> {
 
 /// Files at the edges of every limit, and of every number from 1 to 9.
 pub fn edge_files() -> Vec<Vec<u8>> {
-    let texts = [table_edges(), name_edges(), length_edges()].concat();
+    let texts = [table_edges(), name_edges(), capital_edges(), length_edges()].concat();
     texts
         .into_iter()
         .map(String::into_bytes)
@@ -487,9 +566,11 @@ fn table_edges() -> Vec<String> {
         files.push(names_declared(count) + "end\n");
     }
     files.push(names_declared(128) + "name,n0\nend\n");
+    files.push(names_declared(128) + "name,N127\nend\n");
     for count in [511, 512, 513] {
         files.push(format!("{one}{}end\n", rules(count)));
         files.push(format!("{one}{}rule,absent\nend\n", rules(count)));
+        files.push(format!("{one}{}rule,N0\nend\n", rules(count)));
     }
     for count in [15, 16, 17, 18, 600] {
         files.push(format!("{one}{}end\n", body(count)));
@@ -508,13 +589,45 @@ fn name_edges() -> Vec<String> {
     let lengths = [0, 1, 15, 16, 17, 18, 255, 256, 257, 300];
     let of_length = |length| {
         let name = "x".repeat(length);
+        let capitals = "X".repeat(length);
         [
             format!("name,{name}\nrule,{name},~-{name}\nend\n"),
             format!("name,a\nrule,a,{name}\nend\n"),
             format!("name,a\nrule,-{name}\nend\n"),
+            format!("name,{capitals}\nrule,{name},~-{capitals}\nend\n"),
+            format!("name,{name}\nname,{capitals}\nend\n"),
         ]
     };
     lengths.into_iter().flat_map(of_length).collect()
+}
+
+/// Each letter, small and as a capital, at the first place of a name and at its last; names whose last
+/// bytes are all that differs; and names that begin with another one in other capitals.
+fn capital_edges() -> Vec<String> {
+    let of_letter = |small: char| {
+        let capital = small.to_ascii_uppercase();
+        [("", "_9"), ("q234567890_2345", "")].map(|(before, behind)| {
+            let (one, other) = (
+                format!("{before}{small}{behind}"),
+                format!("{before}{capital}{behind}"),
+            );
+            [
+                format!("name,{one}\nname,{other}\nend\n"),
+                format!("name,{other}\nname,{one}\nend\n"),
+                format!("name,{one}\nrule,-{other},~{one},{other}\nend\n"),
+                format!("name,{other}\nrule,{one},~-{one},-{other}\nend\n"),
+            ]
+        })
+    };
+    let mut files: Vec<String> = ('a'..='z').flat_map(of_letter).flatten().collect();
+    let last_bytes = ('A'..='Z').chain('0'..='9').chain(['_']);
+    let names: String = last_bytes.map(|last| format!("name,x{last}\n")).collect();
+    files.push(names.clone() + "rule,XA,xb,~x_,-X9\nend\n");
+    files.push(names + "name,xa\nend\n");
+    files.push("name,Ab\nname,aBc\nname,A\nrule,AB,abc,~a\nend\n".to_string());
+    files.push("name,Ab\nrule,aBC\nend\n".to_string());
+    files.push("name,Abc\nrule,aB\nend\n".to_string());
+    files
 }
 
 /// A file of no bytes, and files around 60,000 bytes and around the size of a buffer of 65,536.
@@ -536,12 +649,14 @@ fn length_edges() -> Vec<String> {
     files
 }
 
-/// Every byte as a name, behind a name and alone.
+/// Every byte as a name, behind a name, and both in a rule; and every byte alone.
 fn byte_edges() -> impl Iterator<Item = Vec<u8>> {
     (0..=255u8).flat_map(|byte| {
         [
             [b"name,a", &[byte][..], b"\nend\n"].concat(),
             [b"name,", &[byte][..], b"\nend\n"].concat(),
+            [b"name,a\nname,aB\nrule,a", &[byte][..], b"\nend\n"].concat(),
+            [b"name,a\nname,aB\nrule,a,", &[byte][..], b"\nend\n"].concat(),
             vec![byte],
         ]
     })
@@ -585,7 +700,8 @@ pub fn calls(random: &mut Random, size: Size) -> Vec<Call> {
     let mut calls = Vec::new();
     // A few lists start with calls on a desk that has no book.
     if random.chance(7, 8) {
-        calls.push(Call::Load(book(random, size).to_file().into_bytes()));
+        let book = book(random, size);
+        calls.push(Call::Load(written(random, &book)));
     }
     for _ in 0..random.between(1, 24) {
         calls.push(call(random, size));
@@ -635,7 +751,9 @@ fn any_literal(random: &mut Random, size: Size) -> usize {
 #[cfg(test)]
 mod tests {
     use super::*;
+    use crate::answer::Refused;
     use crate::second::{program_output, read};
+    use std::collections::BTreeMap;
 
     #[test]
     fn a_generated_book_is_read_as_itself() {
@@ -651,13 +769,81 @@ mod tests {
         }
     }
 
+    /// The names of a book with small letters alone.
+    fn small_names(book: Book) -> Book {
+        let names = book.names.iter().map(|name| name.to_ascii_lowercase());
+        Book {
+            names: names.collect(),
+            ..book
+        }
+    }
+
+    fn has_capitals(text: &[u8]) -> bool {
+        text.iter().any(u8::is_ascii_uppercase)
+    }
+
+    #[test]
+    fn a_written_file_is_its_books_whatever_its_capitals() {
+        let mut random = Random::new(5);
+        let mut with_capitals = 0;
+        for turn in 0..2_000 {
+            let book = match turn % 100 {
+                0 => full_book(&mut random),
+                _ => book(&mut random, SMALL),
+            };
+            let file = written(&mut random, &book);
+            with_capitals += usize::from(has_capitals(&file));
+            assert_eq!(read(&file).map(small_names), Ok(book));
+        }
+        assert!((600..1_400).contains(&with_capitals), "{with_capitals}");
+    }
+
+    /// What capitals there are in a file, where they matter.
+    fn spelling(file: &[u8]) -> &'static str {
+        let lines = lines_of(file);
+        let line = |refused: Refused| refused.line() - 1;
+        match read(file) {
+            Ok(_) if !has_capitals(file) => "small letters alone",
+            Ok(book) => {
+                let as_declared = book.to_file().into_bytes();
+                if as_declared != file && as_declared.eq_ignore_ascii_case(file) {
+                    "a rule in other capitals than the declaration"
+                } else {
+                    "other"
+                }
+            }
+            Err(refused) => match refused.number() {
+                6 if !lines[..line(refused)].contains(&lines[line(refused)]) => {
+                    "declared again in other capitals"
+                }
+                7 if has_capitals(&lines[line(refused)]) => "undeclared with capitals",
+                _ => "other",
+            },
+        }
+    }
+
+    #[test]
+    fn files_have_names_in_every_spelling() {
+        let mut random = Random::new(6);
+        let mut met: BTreeMap<&str, usize> = BTreeMap::new();
+        for _ in 0..20_000 {
+            let file = file(&mut random, SMALL);
+            *met.entry(spelling(&file)).or_default() += 1;
+        }
+        println!("{met:?}");
+        assert!(met["small letters alone"] > 2_000);
+        assert!(met["a rule in other capitals than the declaration"] > 1_000);
+        assert!(met["declared again in other capitals"] > 100);
+        assert!(met["undeclared with capitals"] > 100);
+    }
+
     #[test]
     fn damaged_full_books_meet_number_8() {
         let mut random = Random::new(4);
         let mut met = 0;
         for _ in 0..100 {
-            let full = full_book(&mut random).to_file();
-            let file = damaged(&mut random, full.as_bytes());
+            let full = full_book_file(&mut random);
+            let file = damaged(&mut random, &full);
             met += usize::from(read(&file).is_err_and(|refused| refused.number() == 8));
         }
         assert!(met >= 5, "number 8 was met {met} times");

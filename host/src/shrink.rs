@@ -26,12 +26,25 @@ pub fn shortest<T: Clone>(list: Vec<T>, shows: &mut dyn FnMut(&[T]) -> bool) -> 
     }
 }
 
-/// A file from which neither a line nor a byte can be left out.
+/// A file from which neither a line nor a byte can be left out, with the capitals that it needs.
 pub fn shortest_file(file: &[u8], shows: &mut dyn FnMut(&[u8]) -> bool) -> Vec<u8> {
     let lines = shortest(lines_of(file), &mut |lines: &[Vec<u8>]| {
         shows(&lines.concat())
     });
-    shortest(lines.concat(), shows)
+    let short = shortest(lines.concat(), shows);
+    fewest_capitals(short, shows)
+}
+
+/// A file in which each capital that isn't needed is made small.
+fn fewest_capitals(mut file: Vec<u8>, shows: &mut dyn FnMut(&[u8]) -> bool) -> Vec<u8> {
+    for place in 0..file.len() {
+        let mut trial = file.clone();
+        trial[place].make_ascii_lowercase();
+        if trial != file && shows(&trial) {
+            file = trial;
+        }
+    }
+    file
 }
 
 /// A list of calls from which no call can be left out, nor a line or byte of a loaded file.
@@ -67,5 +80,13 @@ mod tests {
         let file = b"name,brake\nname,axle\nrule,brake,~axle\nend\n";
         let short = shortest_file(file, &mut |f| f.contains(&b'~') && f.contains(&b'\n'));
         assert_eq!(short, b"~\n");
+    }
+
+    #[test]
+    fn a_file_keeps_the_capitals_that_are_needed() {
+        let short = shortest_file(b"name,BRAKE\nend\n", &mut |f| {
+            f.eq_ignore_ascii_case(b"name,brake\nend\n") && f.contains(&b'K')
+        });
+        assert_eq!(short, b"name,braKe\nend\n");
     }
 }

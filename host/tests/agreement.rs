@@ -1,11 +1,12 @@
-//! On random small books: the searches agree with M and N, M and N with the published notions, and
-//! the comparison of two desks finds wrong ones.
+//! On random small books: the searches agree with M and N, M and N with the published notions, capitals
+//! make no other names, and the comparison of two desks finds wrong ones.
 
-use mezhkura::answer::{BookSize, Model, Question, Refused, Tree, Verdict};
+use mezhkura::answer::{BookSize, Fault, Model, Question, Refused, Tree, Verdict};
 use mezhkura::compare::{agree, answer_by_model, explain, models_stand, questions};
 use mezhkura::compare::{Asked, Calls, Stood, MOST_VISITS};
 use mezhkura::gen::{self, Random, Size, MIDDLE, SMALL};
-use mezhkura::second::{contradictory_name, gamma, search, size, Book, Desk, Program, Walk};
+use mezhkura::second::{contradictory_name, gamma, program_output, read, search, size};
+use mezhkura::second::{Book, Desk, Program, Walk};
 use std::collections::BTreeSet;
 
 /// The seed of the random books; another can be set by hand.
@@ -181,6 +182,39 @@ fn check_model(program: &Program, file: &str) {
     assert_eq!(has_model, contradictory_name(&halves).is_none(), "{}", file);
 }
 
+/// The first field of a line, and the rest of it from the first comma on.
+fn first_and_rest(line: &mut [u8]) -> (&mut [u8], &mut [u8]) {
+    let end = line.iter().position(|byte| matches!(byte, b',' | b'\n'));
+    let end = end.unwrap_or(line.len());
+    line.split_at_mut(end)
+}
+
+/// A file with a change to each of its lines.
+fn with_each_line(file: &[u8], change: impl Fn(&mut [u8])) -> Vec<u8> {
+    let mut lines = gen::lines_of(file);
+    lines.iter_mut().for_each(|line| change(line));
+    lines.concat()
+}
+
+/// Document 02, A.2: a file and the same one with its names in small letters have one outcome, and their
+/// listings differ only in case.
+#[test]
+fn capitals_make_no_other_names() {
+    let mut random = Random::new(seed() + 6);
+    let mut with_capitals = 0;
+    for _ in 0..20_000 {
+        let file = gen::file(&mut random, SMALL);
+        let small = with_each_line(&file, |line| first_and_rest(line).1.make_ascii_lowercase());
+        let (printed, of_small) = (program_output(&file), program_output(&small));
+        let spelt = file.escape_ascii();
+        assert_eq!(printed.to_ascii_lowercase(), of_small, "\"{spelt}\"");
+        let rules = |file| read(file).map(|book| book.rules);
+        assert_eq!(rules(&file), rules(&small), "\"{spelt}\"");
+        with_capitals += usize::from(file != small);
+    }
+    assert!((4_000..16_000).contains(&with_capitals), "{with_capitals}");
+}
+
 /// A desk that is the second implementation, but for one thing that it does wrong.
 struct Wrong {
     desk: Desk,
@@ -197,11 +231,82 @@ impl Wrong {
             last: None,
         }
     }
+
+    /// What the desk reads in place of a file, where it reads it wrong.
+    fn misread(&self, file: &[u8]) -> Result<Vec<u8>, Refused> {
+        match self.how {
+            How::DeclaresEachSpelling => Ok(with_each_spelling_declared(file)),
+            How::UsesTheDeclaredSpellingAlone => match first_other_use(file) {
+                Some(line) => Err(Refused::File {
+                    fault: Fault::Undeclared,
+                    line,
+                }),
+                None => Ok(file.to_vec()),
+            },
+            How::FirstWordsInCapitals => Ok(with_each_line(file, |line| {
+                first_and_rest(line).0.make_ascii_lowercase();
+            })),
+            How::ListsTheLastSpelling if read(file).is_ok() => Ok(declared_as_last_used(file)),
+            _ => Ok(file.to_vec()),
+        }
+    }
+}
+
+/// A file in which each line that 6 refuses, though no line before it is the same, declares a name that
+/// stands nowhere else.
+fn with_each_spelling_declared(file: &[u8]) -> Vec<u8> {
+    let mut lines = gen::lines_of(file);
+    loop {
+        let place = match read(&lines.concat()) {
+            Err(refused) if refused.number() == 6 => refused.line() - 1,
+            _ => return lines.concat(),
+        };
+        if lines[..place].contains(&lines[place]) {
+            return lines.concat();
+        }
+        lines[place] = format!("name,other_{place}\n").into_bytes();
+    }
+}
+
+/// The names in a line, as they are spelt there.
+fn names_in(line: &[u8]) -> Vec<String> {
+    let text = String::from_utf8_lossy(line);
+    let fields = text.trim_end().split(',').skip(1);
+    fields
+        .map(|field| field.trim_start_matches(['~', '-']).to_string())
+        .collect()
+}
+
+/// The first line of a file that loads whose rule spells a name otherwise than its declaration.
+fn first_other_use(file: &[u8]) -> Option<usize> {
+    let declared = read(file).ok()?.names;
+    let other = |line: &Vec<u8>| names_in(line).iter().any(|name| !declared.contains(name));
+    let place = gen::lines_of(file).iter().position(other)?;
+    Some(place + 1)
+}
+
+/// A file that declares each name in the spelling of the last line that has it.
+fn declared_as_last_used(file: &[u8]) -> Vec<u8> {
+    let lines = gen::lines_of(file);
+    let names: Vec<String> = lines.iter().flat_map(|line| names_in(line)).collect();
+    let respelt = |line: &Vec<u8>| match &names_in(line)[..] {
+        [name] if line.starts_with(b"name,") => {
+            let last = names.iter().rfind(|n| n.eq_ignore_ascii_case(name));
+            format!("name,{}\n", last.unwrap_or(name)).into_bytes()
+        }
+        _ => line.clone(),
+    };
+    lines.iter().flat_map(respelt).collect()
 }
 
 #[derive(Clone, Copy, Debug, PartialEq)]
 enum How {
     NotAtAll,
+    DeclaresEachSpelling,
+    UsesTheDeclaredSpellingAlone,
+    FirstWordsInCapitals,
+    ListsSmallLetters,
+    ListsTheLastSpelling,
     HeadsAreSized,
     SizesRefusedFiles,
     PutInStoresNothing,
@@ -219,7 +324,7 @@ enum How {
 
 impl Calls for Wrong {
     fn size(&self, file: &[u8]) -> Result<BookSize, Refused> {
-        let sized = size(file);
+        let sized = size(&self.misread(file)?);
         match self.how {
             How::HeadsAreSized => sized.map(|size| BookSize {
                 body_literals: size.body_literals + size.rules,
@@ -237,7 +342,7 @@ impl Calls for Wrong {
 
     fn load(&mut self, file: &[u8]) -> Result<(), Refused> {
         let facts = self.desk.facts().clone();
-        self.desk.load(file)?;
+        self.desk.load(&self.misread(file)?)?;
         self.last = None;
         if self.how == How::LoadKeepsFacts {
             facts.into_iter().for_each(|fact| {
@@ -305,6 +410,11 @@ impl Calls for Wrong {
             How::ShortBufferOfALongOne if length > 30 && self.desk.book().is_some() => {
                 Err(Refused::BufferTooShort)
             }
+            How::ListsSmallLetters => {
+                let written = self.desk.listing(buffer)?;
+                buffer[..written].make_ascii_lowercase();
+                Ok(written)
+            }
             How::WritesPastTheListing => {
                 let written = self.desk.listing(buffer)?;
                 buffer[written..].fill(0);
@@ -365,14 +475,39 @@ fn wrong_desks_are_found_and_explained_in_few_calls() {
     }
 }
 
-/// A wrong desk is found, and shown in few calls.
-fn assert_found<T>(how: How, looked: Result<T, String>) {
+/// A wrong desk is found, and shown in few calls, in the text that is answered.
+fn assert_found<T>(how: How, looked: Result<T, String>) -> String {
     let Err(text) = looked else {
         panic!("{how:?} wasn't found");
     };
     println!("{how:?}: {text}");
     let calls = text.lines().filter(|line| line.starts_with("  ")).count();
     assert!(calls <= 4, "{how:?} takes {calls} calls:\n{text}");
+    text
+}
+
+/// Each is shown by the answer that it gets wrong.
+#[test]
+fn desks_that_are_wrong_about_capitals_are_found() {
+    for (how, difference) in [
+        (
+            How::DeclaresEachSpelling,
+            "second says Err(File { fault: DeclaredBefore",
+        ),
+        (
+            How::UsesTheDeclaredSpellingAlone,
+            "the other says Err(File { fault: Undeclared",
+        ),
+        (
+            How::FirstWordsInCapitals,
+            "second says Err(File { fault: Fields",
+        ),
+        (How::ListsSmallLetters, "(listing, "),
+        (How::ListsTheLastSpelling, "(listing, "),
+    ] {
+        let text = assert_found(how, random_lists(how, 2_000));
+        assert!(text.contains(difference), "{how:?}: {text}");
+    }
 }
 
 /// After how many calls of so many lists the model was looked at, or a list after which it doesn't stand.

@@ -122,7 +122,7 @@ fn edges_agree() {
 fn full_books_agree() {
     let mut random = Random::new(seed() + 2);
     let books = (0..24).map(|_| {
-        let full = gen::full_book(&mut random).to_file().into_bytes();
+        let full = gen::full_book_file(&mut random);
         with_facts(&mut random, full)
     });
     assert_eq!(compare("full books", books).questions, 24 * 1_024);
@@ -132,7 +132,7 @@ fn full_books_agree() {
 fn damaged_full_books_agree() {
     let mut random = Random::new(seed() + 3);
     let files = (0..50).flat_map(|_| {
-        let full = gen::full_book(&mut random).to_file().into_bytes();
+        let full = gen::full_book_file(&mut random);
         let damaged = gen::damaged(&mut random, &full);
         [damaged, gen::file(&mut random, FULL)]
     });

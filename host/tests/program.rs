@@ -99,7 +99,7 @@ fn random_and_damaged_files_agree() {
     }
     for _ in 0..60 {
         compare(&program, &gen::file(&mut random, FULL));
-        let full = gen::full_book(&mut random).to_file().into_bytes();
+        let full = gen::full_book_file(&mut random);
         compare(&program, &full);
         compare(&program, &gen::damaged(&mut random, &full));
     }
