@@ -61,7 +61,7 @@ fn a_c_program_works_on_a_desk() {
     assert_success(&run);
     // Literals 0 and 2 are true: word 0 of M and of N is 1 + 4. The verdict of the written sets is 2.
     let expected = "0 0 22 23\n0 1\n0 1\n0 0 5 5\n0 2\n0 25\n\
-        model,2,1,1\n0,brake_held,true,false\n1,may_park,true,false\n0 0\nmodel,0,0,0\n\
+        model,2,1,1\n0,Brake_Held,true,false\n1,may_park,true,false\n0 0\nmodel,0,0,0\n\
         0 0 2 1 1\n0 0 0 0 0\n9 4 0 0 0\n";
     assert_eq!(String::from_utf8_lossy(&run.stdout), expected);
 }

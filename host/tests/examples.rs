@@ -116,7 +116,7 @@ fn books_of_the_guide_have_their_listings_and_sizes() {
             }
         }
     }
-    assert!(listings >= 18, "{listings} listings");
+    assert!(listings >= 20, "{listings} listings");
     assert!(sizes >= 3, "{sizes} sizes");
 }
 

@@ -1,5 +1,6 @@
-/* A desk in C: loads a book, puts in a fact, asks for verdict, search and model, and prints the listing; then
- * loads a file of no bytes and prints its listing. Sizes the book, the file of no bytes and one that is refused. */
+/* A desk in C: loads a book whose rule spells a name in other capitals, puts in a fact, asks for verdict, search and
+ * model, and prints the listing; then loads a file of no bytes and prints its listing. Sizes the book, the file of no
+ * bytes and one that is refused. */
 #include "mezhkura.h"
 
 #include <stdio.h>
@@ -28,7 +29,7 @@ static void print_size(const char *file, size_t length)
 
 int main(void)
 {
-    const char *file = "name,brake_held\nname,may_park\nrule,may_park,brake_held\nend\n";
+    const char *file = "name,Brake_Held\nname,may_park\nrule,may_park,BRAKE_HELD\nend\n";
     mezhkura_load_reply load = mezhkura_load(mezhkura_fresh(), (const uint8_t *)file, strlen(file));
     mezhkura_change_reply put = mezhkura_put_in(load.desk, 0);
     mezhkura_change_reply again = mezhkura_put_in(put.desk, 0);
