@@ -1,9 +1,9 @@
 -- What the lines before have said, in terms of those lines: `end` has come where one of them begins with `end`, a name is declared where one of them
--- declares it, and in an accepted file that has bytes `end` is the last line and no earlier one. Each line adds what its word says and takes nothing away.
+-- declares it, spelled as there, and in an accepted file that has bytes `end` is the last line and no earlier one. Each line adds what its word says and takes nothing away.
 use mathlib.Core.Path.{_≡_, refl, sym, ap, _∙_}
 use mathlib.Core.Logic.{_⊎_, inl, inr, ⊎-elim, _↔_}
-use mathlib.Core.Bool.{true, false, true≢false}
-use mathlib.Core.List.{List, [], _∷_, _++_, List·Memᴰ·head, List·Memᴰ·tail, List·Memᴰ·not-nil, List·Memᴰ·cases-cons, List·Memᴰ·append-cases, Memᴰ·append-left, Memᴰ·append-right}
+use mathlib.Core.Bool.{Bool, true, false, cond, true≢false}
+use mathlib.Core.List.{List, [], _∷_, _++_, append-assoc, append-nil, List·Memᴰ·head, List·Memᴰ·tail, List·Memᴰ·not-nil, List·Memᴰ·cases-cons, List·Memᴰ·append-cases, Memᴰ·append-left, Memᴰ·append-right}
 use Prim.Native.Nat.{ℕ}
 use native.Mathlib.Omega.{arith}
 use lib.ListN.{length, take, drop, length-append}
@@ -11,7 +11,7 @@ use lib.Seq.{take-append-seam}
 use Rattle.wfsx.specs.Sets.{_isIn_}
 use Rattle.wfsx.specs.Program.{Rule}
 use Rattle.truth.proofs.Truth.{clash}
-use Rattle.scan.specs.Text.{fields, wordOf, nameWord, endWord, comma}
+use Rattle.scan.specs.Text.{fields, wordOf, sameBytes, nameWord, ruleWord, endWord, comma}
 use Rattle.scan.specs.declared.Word.{Word}
 use Rattle.scan.specs.declared.Word.the-variants.{Name, Rule as RuleWord, End, Unknown}
 use Rattle.scan.proofs.Words.{IsWord, first-is, word-is}
@@ -19,6 +19,7 @@ use Rattle.scan.specs.declared.Alphabet.the-variants.{EitherCase}
 use Rattle.reader.proofs.FieldCounts.{end-fields}
 use Rattle.reader.specs.File.{Content, nothingYet, wrongFields, lineFault, extended, withLine, accepted, linesOf, readFile}
 use Rattle.reader.specs.Conditions.{HasBytes, _startsWith_, saidBy, closed}
+use Rattle.reader.specs.Capitals.{declaring, declaredBy}
 use Rattle.reader.proofs.Faults.{line-passes}
 use Rattle.reader.proofs.Lines.{Faultless, file-read}
 use Rattle.reader.proofs.Pieces.{fields-are}
@@ -101,6 +102,31 @@ pub declared-in : (n : List ℕ) (lines : List (List ℕ)) → (n isIn saidBy no
 declared-in n lines =
     let added = lines-add (λ d. n isIn d .names) (λ fs. (fs startsWith nameWord) × (n isIn drop 1 fs)) (named-line n) nothingYet lines in
     (λ m. ⊎-elim (λ z. absurd (List·Memᴰ·not-nil z)) (λ s. s) (added .0 m), λ s. added .1 (inr s))
+
+-- the names are the fields behind `name`, line by line
+line-names : (d : Content) (fs : List (List ℕ)) → withLine EitherCase d fs .names ≡ d .names ++ declaring fs
+unfolding withLine extended wordOf
+line-names d [] = sym (append-nil (d .names))
+line-names d (first ∷ others) = go (sameBytes first nameWord) (sameBytes first ruleWord) (sameBytes first endWord)
+  where
+    go : (a b c : Bool) → extended EitherCase d (cond a Name (cond b RuleWord (cond c End Unknown))) others .names ≡ d .names ++ cond a others []
+    go true b c = refl
+    go false true c = sym (append-nil (d .names))
+    go false false true = sym (append-nil (d .names))
+    go false false false = sym (append-nil (d .names))
+
+names-said : (d : Content) (lines : List (List ℕ)) → saidBy d lines .names ≡ d .names ++ declaredBy lines
+unfolding declaredBy
+names-said d [] = sym (append-nil (d .names))
+names-said d (line ∷ lines) =
+    names-said (withLine EitherCase d (fields line)) lines ∙ ap (λ (l : List (List ℕ)). l ++ declaredBy lines) (line-names d (fields line))
+    ∙ append-assoc (d .names) (declaring (fields line)) (declaredBy lines)
+
+-- a name of an accepted file is the field that declares it, byte for byte
+pub names-as-declared : (file : List ℕ) (names : List (List ℕ)) (rules : List Rule) → readFile EitherCase file ≡ accepted names rules → names ≡ declaredBy (linesOf file)
+unfolding declaredBy
+names-as-declared file names rules e =
+    ⊎-elim (λ r. sym (r .its-names) ∙ names-said nothingYet (linesOf file)) (λ none. none .1 ∙ ap (λ (f : List ℕ). declaredBy (linesOf f)) (sym (none .0))) (file-read file names rules e)
 
 -- ---- the last line
 
