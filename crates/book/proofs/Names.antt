@@ -1,5 +1,5 @@
 -- The names and rules of a book's tables: how many there are, which name stands at a place, and that a name is no longer than the limit, since its length
--- is clamped. A name that is found has a number below their count.
+-- is clamped.
 use mathlib.Core.Path.{_≡_, ap, _∙_}
 use mathlib.Core.List.{List, []}
 use Prim.Native.Nat.{ℕ, _*_, _≤_, _<_}
@@ -8,14 +8,11 @@ use native.Mathlib.Decide.{decLt}
 use native.Mathlib.Omega.{arith}
 use lib.ListN.{length, getD, drop, length-take, List·getD-eq-default}
 use Rattle.scan.specs.Text.{maxLength}
-use Rattle.scan.specs.declared.Alphabet.{Alphabet}
 use Rattle.book.specs.Limits.{maxNames, maxRules}
-use Rattle.book.specs.Book.{clamp, nameAt, namesIn, namesOf, find, ruleAt, rulesOf}
+use Rattle.book.specs.Book.{clamp, nameAt, namesIn, namesOf, ruleAt, rulesOf}
 use Rattle.book.specs.declared.Book.{Book}
-use Rattle.book.specs.declared.Found.the-variants.{At}
 use Rattle.book.proofs.Rows.{rows-length, row-at}
 use Rattle.book.proofs.Counts.{clamp-most}
-use Rattle.book.proofs.Lookup.{found-below}
 
 module _ (text lengths : List ℕ) where
   pub names-count : (n : ℕ) → length (namesIn text lengths n) ≡ n
@@ -40,11 +37,6 @@ module _ (text lengths : List ℕ) where
         go : Dec (k < n) → length (getD (namesIn text lengths n) k []) ≤ maxLength
         go (yes h) = rw (name-in h) (name-most k)
         go (no h) = rw (name-out (omega arith)) (omega arith)
-
-  -- a number that the tables give lies below the most names
-  pub found-small : (α : Alphabet) (count : ℕ) (n : List ℕ) (i : ℕ) → find α (namesIn text lengths (clamp maxNames count)) n ≡ At i → i < maxNames
-  found-small α count n i e =
-      omega (arith, found-below α 0 n (namesIn text lengths (clamp maxNames count)) i e, names-count (clamp maxNames count), clamp-most maxNames count)
 
 module _ (b : Book) where
   pub names-counted : length (namesOf b) ≡ clamp maxNames (b .names)

@@ -83,10 +83,10 @@ fn hint_at(hints: &[u8], i: usize) -> usize
 pub fn find(keys: &[u64], hints: &[u8], count: usize, key: Key) -> Found
     ensures { λ r. ⌜ LookedUp (now (keys .entry)) count key r ⌝ }
 {
-    let k = hint_at(hints, hint_place(key));
-    if k < count {
-        if has(keys, k, key) {
-            return Found::At(k);
+    let hint = hint_at(hints, hint_place(key));
+    if hint < count {
+        if has(keys, hint, key) {
+            return Found::At(hint);
         }
     }
     first_with(keys, count, key)

@@ -14,7 +14,7 @@ use Rattle.scan.specs.Text.{maxLength}
 use Rattle.scan.specs.declared.Word.the-variants.{Name, Rule as RuleWord, End}
 use Rattle.scan.specs.declared.Alphabet.the-variants.{EitherCase}
 use Rattle.book.specs.Limits.{maxNames, maxRules, maxEntries}
-use Rattle.book.specs.Book.{codeOf, bodyCodes, textTable, lengthTable, startTable, bookOf}
+use Rattle.book.specs.Book.{codeOf, bodyCodes, startTable, bookOf}
 use Rattle.book.proofs.Tables.{allCodes, codes-none, codes-first, text-more, length-more, head-more, start-more, entry-more, text-none, lengths-none, heads-none, starts-none, entries-none, book-is}
 use Rattle.keys.specs.Keyed.{Keyed}
 use Rattle.reader.specs.File.{Content, nothingYet, bodyLiterals, literalNumber, entryFrom, extended}

@@ -17,5 +17,6 @@ pub mod Tests
 pub mod Conditions
 pub mod Pieces
 pub mod Said
+pub mod Capitals
 pub mod Outcomes
 pub mod Sizing

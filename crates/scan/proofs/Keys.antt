@@ -9,9 +9,9 @@ use native.Mathlib.Omega.{arith}
 use lib.ListN.{length, getD, take, drop, length-map, length-take, length-drop, drop-of-length-le}
 use lib.Seq.{take-all, take-nil, take-add}
 use lib.Dec.{eqb, leb}
-use borrow.Author.Tests.{eq-eqb, ne-eqb, eqb-true, leb-true}
+use borrow.Author.Tests.{eq-eqb, eqb-true, leb-true}
 use Rattle.truth.proofs.Truth.{refuted, and-l, and-r}
-use Rattle.scan.specs.Text.{isCapital, small, countsAs, maxLength, folded, sameBytes, SameName, sameName, digitsOf, inWord, Bytes, wordFrom, keyOf, sameKey}
+use Rattle.scan.specs.Text.{isCapital, small, countsAs, maxLength, folded, SameName, sameName, digitsOf, inWord, Bytes, wordFrom, keyOf, sameKey}
 use Rattle.scan.specs.declared.Alphabet.{Alphabet}
 use Rattle.scan.specs.declared.Alphabet.the-variants.{SmallOnly, EitherCase}
 use Rattle.scan.specs.declared.Key.{Key}

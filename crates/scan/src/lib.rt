@@ -177,13 +177,13 @@ fn word_from(s: &[u8], from: usize, alphabet: Alphabet) -> u64
 {
     let end = from + IN_WORD;
     let mut w: u64 = 0;
-    let mut i = from;
-    while i < end {
-        if s.len() <= i {
+    let mut k = from;
+    while k < end {
+        if s.len() <= k {
             return w;
         }
-        w = 256 * w + wide(counts_as(s[i], alphabet));
-        i += 1;
+        w = 256 * w + wide(counts_as(s[k], alphabet));
+        k += 1;
     }
     w
 }

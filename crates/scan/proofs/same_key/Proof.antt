@@ -1,6 +1,4 @@
 -- `same_key`: each test that fails settles the definition, in its order.
-use borrow.Author.Needs.{needs}
-use mathlib.Core.Path.{sym}
 use borrow.Author.Tests.{eq-eqb, ne-eqb}
 use Rattle.scan.proofs.same_key.Statement.{statement}
 use Rattle.scan.proofs.same_key.Tie as tie

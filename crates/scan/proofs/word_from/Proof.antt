@@ -10,11 +10,11 @@ use Rattle.scan.proofs.word_from.Statement.{statement}
 use Rattle.scan.proofs.word_from.Tie as tie
 
 abbrev Inv-loop : tie.InvT-loop
-Inv-loop s from alphabet end w₀ i₀ w i =
-    (from ≤ i) × (i ≤ from + inWord) × (w < 256 ^ (i - from)) × (wordLeft alphabet s w i (from + inWord) ≡ wordFrom alphabet from s)
+Inv-loop s from alphabet end w₀ k₀ w k =
+    (from ≤ k) × (k ≤ from + inWord) × (w < 256 ^ (k - from)) × (wordLeft alphabet s w k (from + inWord) ≡ wordFrom alphabet from s)
 
 abbrev μ-loop : tie.MeasureT-loop
-μ-loop s from alphabet end w₀ i₀ w i = from + inWord - i
+μ-loop s from alphabet end w₀ k₀ w k = from + inWord - k
 
 add-end : tie.Need-add-end Inv-loop μ-loop
 add-end c = search needs
@@ -29,13 +29,13 @@ returns : tie.Need-returns Inv-loop μ-loop
 returns c =
     let at = c .before .before in
     let a = at .before .before .args in
-    sym (word-past (a .alphabet) (a .s .now) (at .loop .w) (at .loop .i) (a .from + inWord) (c .if1 .taken)) ∙ at .loop .inv .3
+    sym (word-past (a .alphabet) (a .s .now) (at .loop .w) (at .loop .k) (a .from + inWord) (c .if1 .taken)) ∙ at .loop .inv .3
 
 mul-w : tie.Need-mul-w Inv-loop μ-loop
 mul-w c =
     let at = c .before .before in
     let inv = at .loop .inv in
-    omega (arith, digits-fit (at .loop .w) (at .loop .i - at .before .before .args .from) (inv .2) (omega (arith, inv .0, c .before .loop-test .taken)))
+    omega (arith, digits-fit (at .loop .w) (at .loop .k - at .before .before .args .from) (inv .2) (omega (arith, inv .0, c .before .loop-test .taken)))
 
 shared-slice-read-counts-as : tie.Need-shared-slice-read-counts-as Inv-loop μ-loop
 shared-slice-read-counts-as c = search needs
@@ -52,11 +52,11 @@ add-w c =
     let at = e .before .before .before in
     let a = at .before .before .args in
     let inv = at .loop .inv in
-    let byte = count-byte (a .alphabet) (getD (a .s .now) (at .loop .i) 0) (omega (arith, e .shared-slice-known2 .given (at .loop .i))) in
-    omega (arith, byte, c .wide .ensures, c .before .counts-as .ensures, digits-fit (at .loop .w) (at .loop .i - a .from) (inv .2) (omega (arith, inv .0, e .before .before .loop-test .taken)))
+    let byte = count-byte (a .alphabet) (getD (a .s .now) (at .loop .k) 0) (omega (arith, e .shared-slice-known2 .given (at .loop .k))) in
+    omega (arith, byte, c .wide .ensures, c .before .counts-as .ensures, digits-fit (at .loop .w) (at .loop .k - a .from) (inv .2) (omega (arith, inv .0, e .before .before .loop-test .taken)))
 
-add-i : tie.Need-add-i Inv-loop μ-loop
-add-i c = search needs
+add-k : tie.Need-add-k Inv-loop μ-loop
+add-k c = search needs
 
 loop-less : tie.Need-loop-less Inv-loop μ-loop
 loop-less c = search needs
@@ -69,20 +69,20 @@ loop-again c =
     let inv = at .loop .inv in
     let inside = e .before .before .loop-test .taken in
     let seen = c .wide .ensures ∙ c .before .counts-as .ensures in
-    let byte = count-byte (a .alphabet) (getD (a .s .now) (at .loop .i) 0) (omega (arith, e .shared-slice-known2 .given (at .loop .i))) in
-    let next : at .loop .i + 1 - a .from ≡ suc (at .loop .i - a .from) = omega (arith, inv .0) in (
+    let byte = count-byte (a .alphabet) (getD (a .s .now) (at .loop .k) 0) (omega (arith, e .shared-slice-known2 .given (at .loop .k))) in
+    let next : at .loop .k + 1 - a .from ≡ suc (at .loop .k - a .from) = omega (arith, inv .0) in (
       omega (arith, inv .0),
       omega (arith, inside),
-      rw next (digits-grow (at .loop .w) (c .wide .result) (at .loop .i - a .from) (inv .2) (omega (arith, seen, byte))),
-      ap (λ (b : ℕ). wordLeft (a .alphabet) (a .s .now) (256 * at .loop .w + b) (at .loop .i + 1) (a .from + inWord)) seen
-          ∙ sym (word-step (a .alphabet) (a .s .now) (at .loop .w) (at .loop .i) (a .from + inWord) inside (e .before .if1 .left)) ∙ inv .3,
+      rw next (digits-grow (at .loop .w) (c .wide .result) (at .loop .k - a .from) (inv .2) (omega (arith, seen, byte))),
+      ap (λ (b : ℕ). wordLeft (a .alphabet) (a .s .now) (256 * at .loop .w + b) (at .loop .k + 1) (a .from + inWord)) seen
+          ∙ sym (word-step (a .alphabet) (a .s .now) (at .loop .w) (at .loop .k) (a .from + inWord) inside (e .before .if1 .left)) ∙ inv .3,
     )
 
 returns-2 : tie.Need-returns-2 Inv-loop μ-loop
 returns-2 c =
     let at = c .before in
     let a = at .before .before .args in
-    sym (word-ends (a .alphabet) (a .s .now) (at .loop .w) (at .loop .i) (a .from + inWord) (c .loop-test .left)) ∙ at .loop .inv .3
+    sym (word-ends (a .alphabet) (a .s .now) (at .loop .w) (at .loop .k) (a .from + inWord) (c .loop-test .left)) ∙ at .loop .inv .3
 
 pub word-from-spec : {M : Type 1} → statement M
 word-from-spec =
@@ -98,7 +98,7 @@ word-from-spec =
     counts-as-requires
     wide-requires
     add-w
-    add-i
+    add-k
     loop-less
     loop-again
     returns-2)
