@@ -10,3 +10,5 @@ pub mod Answers
 pub mod Exists
 pub mod Cases
 pub mod Sizing
+pub mod Parted
+pub mod Spelling

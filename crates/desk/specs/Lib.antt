@@ -2,3 +2,4 @@
 pub mod Calls
 pub mod Runs
 pub mod Cases
+pub mod Spelling

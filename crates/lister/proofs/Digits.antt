@@ -1,14 +1,15 @@
--- A number's digits are those of its tenth and one more, whatever bound they are counted within.
+-- A number's digits are those of its tenth and one more, whatever bound they are counted within. Each is a byte from 48 to 57.
 use mathlib.Core.Path.{_≡_, sym, ap, _∙_}
 use mathlib.Core.Bool.{true, false}
-use mathlib.Core.Logic.{_⊎_, inl, inr}
-use mathlib.Core.List.{List, [], _∷_, _++_}
+use mathlib.Core.Logic.{_⊎_, inl, inr, ⊎-elim}
+use mathlib.Core.List.{List, [], _∷_, _++_, List·Memᴰ·not-nil, List·Memᴰ·append-cases, List·Memᴰ·eq-of-singleton}
 use Prim.Native.Nat.{ℕ, zero, suc, _+_, _/_, _%_, _^_, _≤_, _<_}
 use native.Mathlib.Nat.{pow-suc, div-lt-iff-lt-mul}
 use native.Mathlib.Omega.{arith}
 use lib.Dec.{ltb}
 use lib.ListN.{length, length-append}
 use borrow.Author.Tests.{ltb-true, ltb-false, lt-ltb, le-ltb}
+use Rattle.wfsx.specs.Sets.{_isIn_}
 use Rattle.truth.proofs.Truth.{decided}
 use Rattle.lister.specs.Listing.{lastDigits, digits}
 
@@ -56,3 +57,21 @@ digits-most (suc k) n h = go (λ l. digits-most k (n / 10) l) (decided (ltb n 10
     go most (inr e) =
         let shorter : n / 10 < 10 ^ suc k = div-lt-iff-lt-mul {k = 10} {x = n} {y = 10 ^ suc k} (omega arith) .1 (rw (pow-suc 10 (suc k)) at h) in
         omega (arith, digits-one-more n (ltb-false n 10 e), most shorter)
+
+last-bytes : (k n b : ℕ) → b isIn lastDigits k n → (48 ≤ b) × (b ≤ 57)
+unfolding lastDigits
+last-bytes zero n b m = absurd (List·Memᴰ·not-nil m)
+last-bytes (suc k) n b m = go (last-bytes k (n / 10) b) (decided (ltb n 10))
+  where
+    go : (b isIn lastDigits k (n / 10) → (48 ≤ b) × (b ≤ 57)) → (ltb n 10 ≡ true) ⊎ (ltb n 10 ≡ false) → (48 ≤ b) × (b ≤ 57)
+    go before (inl e) =
+        let few = ltb-true n 10 e in
+        let one = List·Memᴰ·eq-of-singleton (rw (last-few k n few) at m) in
+        (omega arith, omega arith)
+    go before (inr e) =
+        ⊎-elim before (λ i. let one = List·Memᴰ·eq-of-singleton i in (omega arith, omega arith))
+        (List·Memᴰ·append-cases (lastDigits k (n / 10)) (rw (last-more k n (ltb-false n 10 e)) at m))
+
+pub digit-bytes : (n b : ℕ) → b isIn digits n → (48 ≤ b) × (b ≤ 57)
+unfolding digits
+digit-bytes n b m = last-bytes (suc n) n b m

@@ -1,0 +1,187 @@
+-- A listing parted into lines and fields. A line is put together from its fields, with commas between them and byte 10 behind. Every byte of a field is
+-- above both, so the lines and fields of the listing are those that it is put together from.
+use mathlib.Core.Path.{_≡_, refl, sym, ap, _∙_}
+use mathlib.Core.Logic.{inl, inr, ⊎-elim}
+use mathlib.Core.Bool.{true}
+use mathlib.Core.List.{List, [], _∷_, _++_, append-assoc, List·Memᴰ·head, List·Memᴰ·tail, List·Memᴰ·not-nil, List·Memᴰ·cases-cons, List·Memᴰ·append-cases}
+use Prim.Native.Nat.{ℕ, zero, suc, _+_, _-_, _*_, _≤_, _<_}
+use native.Mathlib.Numerals.{add-one}
+use native.Mathlib.Omega.{arith}
+use lib.Dec.{ltb}
+use lib.ListN.{length, getD, length-append}
+use lib.Seq.{getD-at}
+use borrow.Author.Tests.{ltb-true}
+use Rattle.wfsx.specs.Sets.{_isIn_}
+use Rattle.wfsx.specs.Program.{Rule}
+use Rattle.wfsx.specs.Model.{Verdict, is-true, is-false, is-undefined}
+use Rattle.litset.specs.declared.Clash.the-variants.{None, Name}
+use Rattle.scan.specs.Text.{allBytes, fields, comma, newline}
+use Rattle.scan.specs.declared.Alphabet.the-variants.{EitherCase}
+use Rattle.scan.proofs.Bytes.{bytes-none, bytes-first}
+use Rattle.reader.specs.File.{accepted, linesOf, readFile}
+use Rattle.reader.specs.Conditions.{NameByte, LastLineOpen, closed, FreeOf}
+use Rattle.reader.proofs.Faults.{each-passes}
+use Rattle.reader.proofs.Tests.{name-is}
+use Rattle.reader.proofs.Pieces.{fields-are, lines-are}
+use Rattle.reader.proofs.Within.{accepted-within}
+use Rattle.lister.specs.Listing.{modelWord, contradictionWord, verdictWord, digits, line, counts, verdictFields, nameLines, listingBy}
+use Rattle.lister.proofs.Digits.{digit-bytes}
+use Rattle.desk.specs.Spelling.{fieldAt}
+
+-- ---- the bytes of a field
+
+-- every byte is above the comma, and so above byte 10
+abbrev Plain : List ℕ → Type 0
+Plain f = (b : ℕ) → b isIn f → comma < b
+
+abbrev pub AllPlain : List (List ℕ) → Type 0
+AllPlain fs = (f : List ℕ) → f isIn fs → Plain f
+
+no-fields : AllPlain []
+no-fields f m = absurd (List·Memᴰ·not-nil m)
+
+one-more : {f : List ℕ} {fs : List (List ℕ)} → Plain f → AllPlain fs → AllPlain (f ∷ fs)
+one-more {f} p ps g m = ⊎-elim (λ e. rw e p) (ps g) (List·Memᴰ·cases-cons m)
+
+word-plain : (f : List ℕ) → allBytes (ltb comma) f ≡ true → Plain f
+word-plain f e b m = ltb-true comma b (each-passes (ltb comma) (allBytes (ltb comma)) (bytes-none (ltb comma)) (bytes-first (ltb comma)) m e)
+
+verdict-plain : (v : Verdict) → Plain (verdictWord v)
+unfolding allBytes
+verdict-plain is-true = word-plain (verdictWord is-true) refl
+verdict-plain is-false = word-plain (verdictWord is-false) refl
+verdict-plain is-undefined = word-plain (verdictWord is-undefined) refl
+
+digits-plain : (n : ℕ) → Plain (digits n)
+digits-plain n b m = let h = digit-bytes n b m .0 in omega arith
+
+name-above : (b : ℕ) → NameByte b → comma < b
+name-above b (inl (inl small)) = let h = small .0 in omega arith
+name-above b (inl (inr capital)) = let h = capital .0 in omega arith
+name-above b (inr (inl digit)) = let h = digit .0 in omega arith
+name-above b (inr (inr underscore)) = omega arith
+
+pub names-plain : (file : List ℕ) (names : List (List ℕ)) (rules : List Rule) → readFile EitherCase file ≡ accepted names rules → AllPlain names
+names-plain file names rules e n m b i = name-above b (name-is n .0 (accepted-within file names rules e .names-fit n m) .bytes b i)
+
+plain-at : (names : List (List ℕ)) → AllPlain names → (n : ℕ) → Plain (getD names n [])
+plain-at [] a n = λ b m. absurd (List·Memᴰ·not-nil m)
+plain-at (name ∷ names) a zero = a name (List·Memᴰ·head refl)
+plain-at (name ∷ names) a (suc n) = plain-at names (λ f m. a f (List·Memᴰ·tail m)) n
+
+-- ---- the fields of a line
+
+-- a line without its byte 10
+unfoldable joined : List ℕ → List (List ℕ) → List ℕ
+joined f [] = f
+joined f (g ∷ fs) = f ++ comma ∷ joined g fs
+
+line-joined : (f : List ℕ) (fs : List (List ℕ)) → line f fs ≡ joined f fs ++ newline ∷ []
+unfolding line joined
+line-joined f [] = refl
+line-joined f (g ∷ fs) =
+    append-assoc f (comma ∷ []) (line g fs) ∙ ap (λ (l : List ℕ). f ++ comma ∷ l) (line-joined g fs) ∙ sym (append-assoc f (comma ∷ joined g fs) (newline ∷ []))
+
+joined-closed : (f : List ℕ) (fs : List (List ℕ)) → closed comma (f ∷ fs) ≡ joined f fs ++ comma ∷ []
+unfolding closed joined
+joined-closed f [] = refl
+joined-closed f (g ∷ fs) = ap (λ (l : List ℕ). f ++ comma ∷ l) (joined-closed g fs) ∙ sym (append-assoc f (comma ∷ joined g fs) (comma ∷ []))
+
+fields-joined : (f : List ℕ) (fs : List (List ℕ)) → AllPlain (f ∷ fs) → fields (joined f fs) ≡ f ∷ fs
+fields-joined f fs a = fields-are (joined f fs) (f ∷ fs) .1 (joined-closed f fs, λ p m i. let h = a p m comma i in omega arith)
+
+joined-bytes : (f : List ℕ) (fs : List (List ℕ)) → AllPlain (f ∷ fs) → (b : ℕ) → b isIn joined f fs → comma ≤ b
+unfolding joined
+joined-bytes f [] a b m = omega (arith, a f (List·Memᴰ·head refl) b m)
+joined-bytes f (g ∷ fs) a b m =
+    ⊎-elim (λ i. omega (arith, a f (List·Memᴰ·head refl) b i))
+    (λ i. ⊎-elim (λ e. omega arith) (joined-bytes g fs (λ p k. a p (List·Memᴰ·tail k)) b) (List·Memᴰ·cases-cons i)) (List·Memᴰ·append-cases f m)
+
+-- ---- lines
+
+-- the last byte is 10
+closed-ends : (l : List ℕ) (ls : List (List ℕ)) → (s : List ℕ) × (closed newline (l ∷ ls) ≡ s ++ newline ∷ [])
+unfolding closed
+closed-ends l [] = (l, refl)
+closed-ends l (m ∷ ls) =
+    let r = closed-ends m ls in
+    (l ++ newline ∷ r .0, ap (λ (x : List ℕ). l ++ newline ∷ x) (r .1) ∙ sym (append-assoc l (newline ∷ r .0) (newline ∷ [])))
+
+closed-shut : (ls : List (List ℕ)) → LastLineOpen (closed newline ls) → ⊥
+unfolding closed
+closed-shut [] o = let h = o .0 in omega arith
+closed-shut (l ∷ ls) o =
+    let r = closed-ends l ls in
+    let s = r .0 in
+    let last : getD (s ++ newline ∷ []) (length (s ++ newline ∷ []) - 1) 0 ≡ newline = getD-at s newline [] 0 _ (omega (arith, length-append s (newline ∷ []))) in
+    o .1 (rw (r .1) last)
+
+lines-closed : (ls : List (List ℕ)) → FreeOf newline ls → linesOf (closed newline ls) ≡ ls
+lines-closed ls free = lines-are (closed newline ls) ls (closed-shut ls) .1 (refl, free)
+
+-- a line and the lines behind it
+module _ (f : List ℕ) (fs ls : List (List ℕ)) where
+  first-closed : closed newline (joined f fs ∷ ls) ≡ line f fs ++ closed newline ls
+  unfolding closed
+  first-closed = sym (append-assoc (joined f fs) (newline ∷ []) (closed newline ls)) ∙ ap (λ (l : List ℕ). l ++ closed newline ls) (sym (line-joined f fs))
+
+  first-free : AllPlain (f ∷ fs) → FreeOf newline ls → FreeOf newline (joined f fs ∷ ls)
+  first-free a free p m i =
+      ⊎-elim (λ e. let h = joined-bytes f fs a newline (rw e at i) in omega arith) (λ k. free p k i) (List·Memᴰ·cases-cons m)
+
+-- ---- the lines of the names
+
+module _ (v : ℕ → Verdict) where
+  -- without their bytes 10, and the first has number k
+  unfoldable bodies : ℕ → List (List ℕ) → List (List ℕ)
+  bodies k [] = []
+  bodies k (name ∷ names) = joined (digits k) (name ∷ verdictFields v k) ∷ bodies (suc k) names
+
+  bodies-closed : (k : ℕ) (names : List (List ℕ)) → closed newline (bodies k names) ≡ nameLines v k names
+  unfolding bodies nameLines closed
+  bodies-closed k [] = refl
+  bodies-closed k (name ∷ names) =
+      let fs = name ∷ verdictFields v k in
+      first-closed (digits k) fs (bodies (suc k) names) ∙ ap (λ (l : List ℕ). line (digits k) fs ++ l) (bodies-closed (suc k) names)
+
+  body-plain : (k : ℕ) {name : List ℕ} → Plain name → AllPlain (digits k ∷ name ∷ verdictFields v k)
+  body-plain k p = one-more (digits-plain k) (one-more p (one-more (verdict-plain (v (2 * k))) (one-more (verdict-plain (v (2 * k + 1))) no-fields)))
+
+  bodies-free : (k : ℕ) (names : List (List ℕ)) → AllPlain names → FreeOf newline (bodies k names)
+  unfolding bodies
+  bodies-free k [] a = λ p m i. List·Memᴰ·not-nil m
+  bodies-free k (name ∷ names) a =
+      first-free (digits k) (name ∷ verdictFields v k) (bodies (suc k) names) (body-plain k (a name (List·Memᴰ·head refl)))
+      (bodies-free (suc k) names (λ f m. a f (List·Memᴰ·tail m)))
+
+  body-name : (k : ℕ) (names : List (List ℕ)) → AllPlain names → (i : ℕ) → i < length names → getD (fields (getD (bodies k names) i [])) 1 [] ≡ getD names i []
+  unfolding bodies
+  body-name k [] a i h = absurd (omega arith)
+  body-name k (name ∷ names) a zero h =
+      ap (λ (fs : List (List ℕ)). getD fs 1 []) (fields-joined (digits k) (name ∷ verdictFields v k) (body-plain k (a name (List·Memᴰ·head refl))))
+  body-name k (name ∷ names) a (suc i) h = body-name (suc k) names (λ f m. a f (List·Memᴰ·tail m)) i (omega arith)
+
+-- ---- NAME in a listing
+
+module _ (names : List (List ℕ)) (a : AllPlain names) (rules facts : ℕ) (v : ℕ → Verdict) where
+  counts-plain : {fs : List (List ℕ)} → AllPlain fs → AllPlain (counts (length names) rules facts ++ fs)
+  counts-plain p = one-more (digits-plain (length names)) (one-more (digits-plain rules) (one-more (digits-plain facts) p))
+
+  model-lines : linesOf (listingBy names rules facts v None) ≡ joined modelWord (counts (length names) rules facts) ∷ bodies v 0 names
+  unfolding listingBy allBytes
+  model-lines =
+      let fs = counts (length names) rules facts in
+      let parts = first-closed modelWord fs (bodies v 0 names) ∙ ap (λ (l : List ℕ). line modelWord fs ++ l) (bodies-closed v 0 names) in
+      let plain = one-more (word-plain modelWord refl) (counts-plain no-fields) in
+      ap linesOf (sym parts) ∙ lines-closed (joined modelWord fs ∷ bodies v 0 names) (first-free modelWord fs (bodies v 0 names) plain (bodies-free v 0 names a))
+
+  pub name-in-line : (k : ℕ) → k < length names → fieldAt (listingBy names rules facts v None) (k + 1) 1 ≡ getD names k []
+  name-in-line k h = rw (model-lines, add-one k) (body-name v 0 names a k h)
+
+  pub name-in-header : (n : ℕ) → fieldAt (listingBy names rules facts v (Name n)) 0 4 ≡ getD names n []
+  unfolding listingBy allBytes closed
+  name-in-header n =
+      let fs = counts (length names) rules facts ++ (getD names n [] ∷ []) in
+      let plain = one-more (word-plain contradictionWord refl) (counts-plain (one-more (plain-at names a n) no-fields)) in
+      let lines = ap linesOf (line-joined contradictionWord fs) ∙ lines-closed (joined contradictionWord fs ∷ []) (first-free contradictionWord fs [] plain (λ p m i. List·Memᴰ·not-nil m)) in
+      ap (λ (ls : List (List ℕ)). getD (fields (getD ls 0 [])) 4 []) lines ∙ ap (λ (gs : List (List ℕ)). getD gs 4 []) (fields-joined contradictionWord fs plain)
