@@ -4,12 +4,11 @@ use mathlib.Core.Path.{_≡_, refl, sym, ap, _∙_}
 use mathlib.Core.Logic.{inl, inr, ⊎-elim}
 use mathlib.Core.Bool.{true}
 use mathlib.Core.List.{List, [], _∷_, _++_, append-assoc, List·Memᴰ·head, List·Memᴰ·tail, List·Memᴰ·not-nil, List·Memᴰ·cases-cons, List·Memᴰ·append-cases}
-use Prim.Native.Nat.{ℕ, zero, suc, _+_, _-_, _*_, _≤_, _<_}
+use Prim.Native.Nat.{ℕ, zero, suc, _+_, _*_, _≤_, _<_}
 use native.Mathlib.Numerals.{add-one}
 use native.Mathlib.Omega.{arith}
 use lib.Dec.{ltb}
-use lib.ListN.{length, getD, length-append}
-use lib.Seq.{getD-at}
+use lib.ListN.{length, getD}
 use borrow.Author.Tests.{ltb-true}
 use Rattle.wfsx.specs.Sets.{_isIn_}
 use Rattle.wfsx.specs.Program.{Rule}
@@ -19,10 +18,10 @@ use Rattle.scan.specs.Text.{allBytes, fields, comma, newline}
 use Rattle.scan.specs.declared.Alphabet.the-variants.{EitherCase}
 use Rattle.scan.proofs.Bytes.{bytes-none, bytes-first}
 use Rattle.reader.specs.File.{accepted, linesOf, readFile}
-use Rattle.reader.specs.Conditions.{NameByte, LastLineOpen, closed, FreeOf}
+use Rattle.reader.specs.Conditions.{NameByte, closed, FreeOf}
 use Rattle.reader.proofs.Faults.{each-passes}
 use Rattle.reader.proofs.Tests.{name-is}
-use Rattle.reader.proofs.Pieces.{fields-are, lines-are}
+use Rattle.reader.proofs.Pieces.{fields-are, lines-closed}
 use Rattle.reader.proofs.Within.{accepted-within}
 use Rattle.lister.specs.Listing.{modelWord, contradictionWord, verdictWord, digits, line, counts, verdictFields, nameLines, listingBy}
 use Rattle.lister.proofs.Digits.{digit-bytes}
@@ -72,62 +71,42 @@ plain-at (name ∷ names) a (suc n) = plain-at names (λ f m. a f (List·Memᴰ�
 -- ---- the fields of a line
 
 -- a line without its byte 10
-unfoldable joined : List ℕ → List (List ℕ) → List ℕ
-joined f [] = f
-joined f (g ∷ fs) = f ++ comma ∷ joined g fs
+unfoldable lineBody : List ℕ → List (List ℕ) → List ℕ
+lineBody f [] = f
+lineBody f (g ∷ fs) = f ++ comma ∷ lineBody g fs
 
-line-joined : (f : List ℕ) (fs : List (List ℕ)) → line f fs ≡ joined f fs ++ newline ∷ []
-unfolding line joined
-line-joined f [] = refl
-line-joined f (g ∷ fs) =
-    append-assoc f (comma ∷ []) (line g fs) ∙ ap (λ (l : List ℕ). f ++ comma ∷ l) (line-joined g fs) ∙ sym (append-assoc f (comma ∷ joined g fs) (newline ∷ []))
+line-body : (f : List ℕ) (fs : List (List ℕ)) → line f fs ≡ lineBody f fs ++ newline ∷ []
+unfolding line lineBody
+line-body f [] = refl
+line-body f (g ∷ fs) =
+    append-assoc f (comma ∷ []) (line g fs) ∙ ap (λ (l : List ℕ). f ++ comma ∷ l) (line-body g fs) ∙ sym (append-assoc f (comma ∷ lineBody g fs) (newline ∷ []))
 
-joined-closed : (f : List ℕ) (fs : List (List ℕ)) → closed comma (f ∷ fs) ≡ joined f fs ++ comma ∷ []
-unfolding closed joined
-joined-closed f [] = refl
-joined-closed f (g ∷ fs) = ap (λ (l : List ℕ). f ++ comma ∷ l) (joined-closed g fs) ∙ sym (append-assoc f (comma ∷ joined g fs) (comma ∷ []))
+body-closed : (f : List ℕ) (fs : List (List ℕ)) → closed comma (f ∷ fs) ≡ lineBody f fs ++ comma ∷ []
+unfolding closed lineBody
+body-closed f [] = refl
+body-closed f (g ∷ fs) = ap (λ (l : List ℕ). f ++ comma ∷ l) (body-closed g fs) ∙ sym (append-assoc f (comma ∷ lineBody g fs) (comma ∷ []))
 
-fields-joined : (f : List ℕ) (fs : List (List ℕ)) → AllPlain (f ∷ fs) → fields (joined f fs) ≡ f ∷ fs
-fields-joined f fs a = fields-are (joined f fs) (f ∷ fs) .1 (joined-closed f fs, λ p m i. let h = a p m comma i in omega arith)
+body-fields : (f : List ℕ) (fs : List (List ℕ)) → AllPlain (f ∷ fs) → fields (lineBody f fs) ≡ f ∷ fs
+body-fields f fs a = fields-are (lineBody f fs) (f ∷ fs) .1 (body-closed f fs, λ p m i. let h = a p m comma i in omega arith)
 
-joined-bytes : (f : List ℕ) (fs : List (List ℕ)) → AllPlain (f ∷ fs) → (b : ℕ) → b isIn joined f fs → comma ≤ b
-unfolding joined
-joined-bytes f [] a b m = omega (arith, a f (List·Memᴰ·head refl) b m)
-joined-bytes f (g ∷ fs) a b m =
+body-bytes : (f : List ℕ) (fs : List (List ℕ)) → AllPlain (f ∷ fs) → (b : ℕ) → b isIn lineBody f fs → comma ≤ b
+unfolding lineBody
+body-bytes f [] a b m = omega (arith, a f (List·Memᴰ·head refl) b m)
+body-bytes f (g ∷ fs) a b m =
     ⊎-elim (λ i. omega (arith, a f (List·Memᴰ·head refl) b i))
-    (λ i. ⊎-elim (λ e. omega arith) (joined-bytes g fs (λ p k. a p (List·Memᴰ·tail k)) b) (List·Memᴰ·cases-cons i)) (List·Memᴰ·append-cases f m)
+    (λ i. ⊎-elim (λ e. omega arith) (body-bytes g fs (λ p k. a p (List·Memᴰ·tail k)) b) (List·Memᴰ·cases-cons i)) (List·Memᴰ·append-cases f m)
 
 -- ---- lines
 
--- the last byte is 10
-closed-ends : (l : List ℕ) (ls : List (List ℕ)) → (s : List ℕ) × (closed newline (l ∷ ls) ≡ s ++ newline ∷ [])
-unfolding closed
-closed-ends l [] = (l, refl)
-closed-ends l (m ∷ ls) =
-    let r = closed-ends m ls in
-    (l ++ newline ∷ r .0, ap (λ (x : List ℕ). l ++ newline ∷ x) (r .1) ∙ sym (append-assoc l (newline ∷ r .0) (newline ∷ [])))
-
-closed-shut : (ls : List (List ℕ)) → LastLineOpen (closed newline ls) → ⊥
-unfolding closed
-closed-shut [] o = let h = o .0 in omega arith
-closed-shut (l ∷ ls) o =
-    let r = closed-ends l ls in
-    let s = r .0 in
-    let last : getD (s ++ newline ∷ []) (length (s ++ newline ∷ []) - 1) 0 ≡ newline = getD-at s newline [] 0 _ (omega (arith, length-append s (newline ∷ []))) in
-    o .1 (rw (r .1) last)
-
-lines-closed : (ls : List (List ℕ)) → FreeOf newline ls → linesOf (closed newline ls) ≡ ls
-lines-closed ls free = lines-are (closed newline ls) ls (closed-shut ls) .1 (refl, free)
-
 -- a line and the lines behind it
 module _ (f : List ℕ) (fs ls : List (List ℕ)) where
-  first-closed : closed newline (joined f fs ∷ ls) ≡ line f fs ++ closed newline ls
+  first-closed : closed newline (lineBody f fs ∷ ls) ≡ line f fs ++ closed newline ls
   unfolding closed
-  first-closed = sym (append-assoc (joined f fs) (newline ∷ []) (closed newline ls)) ∙ ap (λ (l : List ℕ). l ++ closed newline ls) (sym (line-joined f fs))
+  first-closed = sym (append-assoc (lineBody f fs) (newline ∷ []) (closed newline ls)) ∙ ap (λ (l : List ℕ). l ++ closed newline ls) (sym (line-body f fs))
 
-  first-free : AllPlain (f ∷ fs) → FreeOf newline ls → FreeOf newline (joined f fs ∷ ls)
+  first-free : AllPlain (f ∷ fs) → FreeOf newline ls → FreeOf newline (lineBody f fs ∷ ls)
   first-free a free p m i =
-      ⊎-elim (λ e. let h = joined-bytes f fs a newline (rw e at i) in omega arith) (λ k. free p k i) (List·Memᴰ·cases-cons m)
+      ⊎-elim (λ e. let h = body-bytes f fs a newline (rw e at i) in omega arith) (λ k. free p k i) (List·Memᴰ·cases-cons m)
 
 -- ---- the lines of the names
 
@@ -135,7 +114,7 @@ module _ (v : ℕ → Verdict) where
   -- without their bytes 10, and the first has number k
   unfoldable bodies : ℕ → List (List ℕ) → List (List ℕ)
   bodies k [] = []
-  bodies k (name ∷ names) = joined (digits k) (name ∷ verdictFields v k) ∷ bodies (suc k) names
+  bodies k (name ∷ names) = lineBody (digits k) (name ∷ verdictFields v k) ∷ bodies (suc k) names
 
   bodies-closed : (k : ℕ) (names : List (List ℕ)) → closed newline (bodies k names) ≡ nameLines v k names
   unfolding bodies nameLines closed
@@ -158,7 +137,7 @@ module _ (v : ℕ → Verdict) where
   unfolding bodies
   body-name k [] a i h = absurd (omega arith)
   body-name k (name ∷ names) a zero h =
-      ap (λ (fs : List (List ℕ)). getD fs 1 []) (fields-joined (digits k) (name ∷ verdictFields v k) (body-plain k (a name (List·Memᴰ·head refl))))
+      ap (λ (fs : List (List ℕ)). getD fs 1 []) (body-fields (digits k) (name ∷ verdictFields v k) (body-plain k (a name (List·Memᴰ·head refl))))
   body-name k (name ∷ names) a (suc i) h = body-name (suc k) names (λ f m. a f (List·Memᴰ·tail m)) i (omega arith)
 
 -- ---- NAME in a listing
@@ -167,13 +146,13 @@ module _ (names : List (List ℕ)) (a : AllPlain names) (rules facts : ℕ) (v :
   counts-plain : {fs : List (List ℕ)} → AllPlain fs → AllPlain (counts (length names) rules facts ++ fs)
   counts-plain p = one-more (digits-plain (length names)) (one-more (digits-plain rules) (one-more (digits-plain facts) p))
 
-  model-lines : linesOf (listingBy names rules facts v None) ≡ joined modelWord (counts (length names) rules facts) ∷ bodies v 0 names
+  model-lines : linesOf (listingBy names rules facts v None) ≡ lineBody modelWord (counts (length names) rules facts) ∷ bodies v 0 names
   unfolding listingBy allBytes
   model-lines =
       let fs = counts (length names) rules facts in
       let parts = first-closed modelWord fs (bodies v 0 names) ∙ ap (λ (l : List ℕ). line modelWord fs ++ l) (bodies-closed v 0 names) in
       let plain = one-more (word-plain modelWord refl) (counts-plain no-fields) in
-      ap linesOf (sym parts) ∙ lines-closed (joined modelWord fs ∷ bodies v 0 names) (first-free modelWord fs (bodies v 0 names) plain (bodies-free v 0 names a))
+      ap linesOf (sym parts) ∙ lines-closed (lineBody modelWord fs ∷ bodies v 0 names) (first-free modelWord fs (bodies v 0 names) plain (bodies-free v 0 names a))
 
   pub name-in-line : (k : ℕ) → k < length names → fieldAt (listingBy names rules facts v None) (k + 1) 1 ≡ getD names k []
   name-in-line k h = rw (model-lines, add-one k) (body-name v 0 names a k h)
@@ -183,5 +162,5 @@ module _ (names : List (List ℕ)) (a : AllPlain names) (rules facts : ℕ) (v :
   name-in-header n =
       let fs = counts (length names) rules facts ++ (getD names n [] ∷ []) in
       let plain = one-more (word-plain contradictionWord refl) (counts-plain (one-more (plain-at names a n) no-fields)) in
-      let lines = ap linesOf (line-joined contradictionWord fs) ∙ lines-closed (joined contradictionWord fs ∷ []) (first-free contradictionWord fs [] plain (λ p m i. List·Memᴰ·not-nil m)) in
-      ap (λ (ls : List (List ℕ)). getD (fields (getD ls 0 [])) 4 []) lines ∙ ap (λ (gs : List (List ℕ)). getD gs 4 []) (fields-joined contradictionWord fs plain)
+      let lines = ap linesOf (line-body contradictionWord fs) ∙ lines-closed (lineBody contradictionWord fs ∷ []) (first-free contradictionWord fs [] plain (λ p m i. List·Memᴰ·not-nil m)) in
+      ap (λ (ls : List (List ℕ)). getD (fields (getD ls 0 [])) 4 []) lines ∙ ap (λ (gs : List (List ℕ)). getD gs 4 []) (body-fields contradictionWord fs plain)

@@ -3,13 +3,13 @@
 use mathlib.Core.Path.{_≡_, refl, sym, ap, _∙_, subst}
 use mathlib.Core.Logic.{⊎-elim, _↔_}
 use mathlib.Core.Bool.{Bool, true, false}
-use mathlib.Core.List.{List, [], _∷_, _++_, List·Memᴰ·head, List·Memᴰ·tail, List·Memᴰ·not-nil, List·Memᴰ·cases-cons}
+use mathlib.Core.List.{List, [], _∷_, _++_, List·Memᴰ·head, List·Memᴰ·tail, List·Memᴰ·not-nil, List·Memᴰ·cases-cons, append-assoc}
 use Prim.Native.Nat.{ℕ, suc, _-_, _<_}
 use native.Mathlib.Omega.{arith}
 use native.Mathlib.Decide.{ℕ-discrete}
 use lib.Dec.{eqb}
 use lib.ListN.{length, getD, take, length-append}
-use lib.Seq.{take-suc, take-length}
+use lib.Seq.{take-suc, take-length, getD-at}
 use borrow.Author.Tests.{eqb-true, eqb-false, eq-eqb, ne-eqb}
 use Rattle.wfsx.specs.Sets.{_isIn_}
 use Rattle.scan.specs.Text.{onto, split, fields, comma, newline}
@@ -95,3 +95,24 @@ lines-are (b ∷ bs) lines shut = subst (λ (l : List ℕ). (linesOf file ≡ li
         let n = length file - 1 in
         let all : suc n ≡ length file = omega arith in
         ap (λ (x : ℕ). take n file ++ x ∷ []) (sym (last (ℕ-discrete (getD file n 0) newline))) ∙ sym (take-suc file n 0 (omega arith)) ∙ ap (λ (k : ℕ). take k file) all ∙ take-length file
+
+-- what is put together from lines ends in byte 10
+closed-ends : (l : List ℕ) (ls : List (List ℕ)) → (s : List ℕ) × (closed newline (l ∷ ls) ≡ s ++ newline ∷ [])
+unfolding closed
+closed-ends l [] = (l, refl)
+closed-ends l (m ∷ ls) =
+    let r = closed-ends m ls in
+    (l ++ newline ∷ r .0, ap (λ (x : List ℕ). l ++ newline ∷ x) (r .1) ∙ sym (append-assoc l (newline ∷ r .0) (newline ∷ [])))
+
+closed-shut : (ls : List (List ℕ)) → LastLineOpen (closed newline ls) → ⊥
+unfolding closed
+closed-shut [] o = let h = o .0 in omega arith
+closed-shut (l ∷ ls) o =
+    let r = closed-ends l ls in
+    let s = r .0 in
+    let last : getD (s ++ newline ∷ []) (length (s ++ newline ∷ []) - 1) 0 ≡ newline = getD-at s newline [] 0 _ (omega (arith, length-append s (newline ∷ []))) in
+    o .1 (rw (r .1) last)
+
+-- lines without byte 10 are given back
+pub lines-closed : (ls : List (List ℕ)) → FreeOf newline ls → linesOf (closed newline ls) ≡ ls
+lines-closed ls free = lines-are (closed newline ls) ls (closed-shut ls) .1 (refl, free)
