@@ -18,7 +18,7 @@ use Rattle.book.specs.Book.{codeOf, bodyCodes, startTable, bookOf}
 use Rattle.book.proofs.Tables.{allCodes, codes-none, codes-first, text-more, length-more, head-more, start-more, entry-more, text-none, lengths-none, heads-none, starts-none, entries-none, book-is}
 use Rattle.keys.specs.Keyed.{Keyed}
 use Rattle.reader.specs.File.{Content, nothingYet, bodyLiterals, literalNumber, entryFrom, extended}
-use Rattle.reader.specs.Steps.{noCounts, Holds, Stored, fieldCode}
+use Rattle.reader.specs.Steps.{noCounts, Holds, NamesStored, RulesStored, Stored, fieldCode}
 use Rattle.reader.specs.declared.Counts.{Counts}
 use Rattle.reader.proofs.Within.{literals-append}
 
@@ -35,48 +35,55 @@ codes-length (r ∷ rules) = rw codes-first (omega (arith, length-append (bodyCo
 
 -- ---- nothing
 
-pub nothing-held : Holds nothingYet noCounts (replicate (3 * maxNames) 0) (replicate (maxLength * maxNames) 0) (replicate maxNames 0)
+pub nothing-held : Holds nothingYet noCounts (replicate (3 * maxNames) 0)
 unfolding bodyLiterals
 nothing-held =
     record {
       counted = record { names-are = refl; rules-are = refl; used-are = refl; ended-is = refl; fits = record { few-names = zero-le; few-rules = zero-le; few-literals = zero-le } };
       keyed = record { room = refl; few = zero-le; has-key = λ k l. absurd (omega arith); short = λ k l. absurd (omega arith); own-place = λ k l. absurd (omega arith) };
-      named = record { text-is = sym text-none; lengths-are = sym lengths-none; short = λ n i. absurd (List·Memᴰ·not-nil i) };
     }
 
-pub nothing-stored : Stored [] (replicate maxRules 0) (replicate (maxRules + 1) 0) (replicate maxEntries 0)
-nothing-stored = record { heads-are = sym heads-none; starts-are = sym starts-none; entries-are = sym entries-none }
+pub nothing-stored : Stored nothingYet (replicate (maxLength * maxNames) 0) (replicate maxNames 0) (replicate maxRules 0) (replicate (maxRules + 1) 0) (replicate maxEntries 0)
+nothing-stored =
+    record {
+      names-stored = record { text-is = sym text-none; lengths-are = sym lengths-none; short = λ n i. absurd (List·Memᴰ·not-nil i) };
+      rules-stored = record { heads-are = sym heads-none; starts-are = sym starts-none; entries-are = sym entries-none };
+    }
 
-module _ {d : Content} {t : Counts} {keys text lengths : List ℕ} (h : Holds d t keys text lengths) where
+module _ {d : Content} {t : Counts} {keys : List ℕ} (h : Holds d t keys) where
   -- the count of the names among which a line looks names up
   pub names-held : t .names ≡ length (d .names)
   names-held = h .counted .names-are
 
   -- ---- a name
 
-  pub name-held : (n : List ℕ) {keys′ text′ lengths′ : List ℕ} → t .names < maxNames → length n ≤ maxLength → Keyed (d .names ++ (n ∷ [])) keys′ → text′ ≡ sets text (maxLength * t .names) n
-      → lengths′ ≡ set lengths (t .names) (length n)
-      → Holds (extended EitherCase d Name (n ∷ [])) (record { names = t .names + 1; rules = t .rules; used = t .used; ended = t .ended }) keys′ text′ lengths′
+  pub name-held : (n : List ℕ) {keys′ : List ℕ} → t .names < maxNames → Keyed (d .names ++ (n ∷ [])) keys′
+      → Holds (extended EitherCase d Name (n ∷ [])) (record { names = t .names + 1; rules = t .rules; used = t .used; ended = t .ended }) keys′
   unfolding extended
-  name-held n room short joined et el =
+  name-held n room joined =
       let c = h .counted in
-      let names = d .names in
-      let size : length (names ++ (n ∷ [])) ≡ length names + 1 = length-append names (n ∷ []) in
-      let few : length names < maxNames = omega (arith, c .names-are) in
       record {
         counted = record {
-          names-are = omega (arith, c .names-are, size);
+          names-are = omega (arith, c .names-are, length-append (d .names) (n ∷ []));
           rules-are = c .rules-are;
           used-are = c .used-are;
           ended-is = c .ended-is;
           fits = record { few-names = omega arith; few-rules = c .fits .few-rules; few-literals = c .fits .few-literals };
         };
         keyed = joined;
-        named = record {
-          text-is = et ∙ ap₂ (λ (x : List ℕ) (k : ℕ). sets x (maxLength * k) n) (h .named .text-is) (c .names-are) ∙ text-more names n few (h .named .short) short;
-          lengths-are = el ∙ ap₂ (λ (x : List ℕ) (k : ℕ). set x k (length n)) (h .named .lengths-are) (c .names-are) ∙ length-more names n few;
-          short = λ m i. ⊎-elim (h .named .short m) (λ j. subst (λ (x : List ℕ). length x ≤ maxLength) (sym (List·Memᴰ·eq-of-singleton j)) short) (List·Memᴰ·append-cases names i);
-        };
+      }
+
+  pub name-stored : (n : List ℕ) {text lengths text′ lengths′ : List ℕ} → t .names < maxNames → length n ≤ maxLength → text′ ≡ sets text (maxLength * t .names) n
+      → lengths′ ≡ set lengths (t .names) (length n) → NamesStored (d .names) text lengths → NamesStored (extended EitherCase d Name (n ∷ []) .names) text′ lengths′
+  unfolding extended
+  name-stored n room short et el s =
+      let c = h .counted in
+      let names = d .names in
+      let few : length names < maxNames = omega (arith, c .names-are) in
+      record {
+        text-is = et ∙ ap₂ (λ (x : List ℕ) (k : ℕ). sets x (maxLength * k) n) (s .text-is) (c .names-are) ∙ text-more names n few (s .short) short;
+        lengths-are = el ∙ ap₂ (λ (x : List ℕ) (k : ℕ). set x k (length n)) (s .lengths-are) (c .names-are) ∙ length-more names n few;
+        short = λ m i. ⊎-elim (s .short m) (λ j. subst (λ (x : List ℕ). length x ≤ maxLength) (sym (List·Memᴰ·eq-of-singleton j)) short) (List·Memᴰ·append-cases names i);
       }
 
   -- ---- a rule
@@ -90,7 +97,7 @@ module _ {d : Content} {t : Counts} {keys text lengths : List ℕ} (h : Holds d 
     unfolding rule
     entry-count = omega (arith, ap length part, length-map body (entryFrom EitherCase (d .names)))
 
-    pub rule-held : Holds (extended EitherCase d RuleWord fs) (record { names = t .names; rules = t .rules + 1; used = t .used + n; ended = t .ended }) keys text lengths
+    pub rule-held : Holds (extended EitherCase d RuleWord fs) (record { names = t .names; rules = t .rules + 1; used = t .used + n; ended = t .ended }) keys
     unfolding extended rule
     rule-held =
         let c = h .counted in
@@ -103,12 +110,11 @@ module _ {d : Content} {t : Counts} {keys text lengths : List ℕ} (h : Holds d 
             fits = record { few-names = c .fits .few-names; few-rules = omega arith; few-literals = fit };
           };
           keyed = h .keyed;
-          named = h .named;
         })
 
     pub rule-stored : {heads starts entries heads′ starts′ entries′ : List ℕ} → heads′ ≡ set heads (t .rules) (literalNumber EitherCase (d .names) f)
         → starts′ ≡ set starts (t .rules + 1) (t .used + n) → entries′ ≡ sets entries (t .used) (map (fieldCode (d .names)) body)
-        → Stored (d .rules) heads starts entries → Stored (extended EitherCase d RuleWord fs .rules) heads′ starts′ entries′
+        → RulesStored (d .rules) heads starts entries → RulesStored (extended EitherCase d RuleWord fs .rules) heads′ starts′ entries′
     unfolding extended rule
     rule-stored eh es ee s =
         let c = h .counted in
@@ -128,20 +134,21 @@ module _ {d : Content} {t : Counts} {keys text lengths : List ℕ} (h : Holds d 
 
   -- ---- `end`
 
-  pub end-held : (others : List (List ℕ)) → Holds (extended EitherCase d End others) (record { names = t .names; rules = t .rules; used = t .used; ended = true }) keys text lengths
+  pub end-held : (others : List (List ℕ)) → Holds (extended EitherCase d End others) (record { names = t .names; rules = t .rules; used = t .used; ended = true }) keys
   unfolding extended
   end-held others =
       let c = h .counted in
       record {
         counted = record { names-are = c .names-are; rules-are = c .rules-are; used-are = c .used-are; ended-is = refl; fits = record { few-names = c .fits .few-names; few-rules = c .fits .few-rules; few-literals = c .fits .few-literals } };
         keyed = h .keyed;
-        named = h .named;
       }
 
   -- ---- the book
 
-  pub book-held : {heads starts entries : List ℕ} → Stored (d .rules) heads starts entries
+  pub book-held : {text lengths heads starts entries : List ℕ} → Stored d text lengths heads starts entries
       → record { names = t .names; rules = t .rules; text = text; lengths = lengths; heads = heads; starts = starts; entries = entries } ≡ bookOf (d .names) (d .rules)
   book-held s =
       let c = h .counted in
-      rw (c .names-are, h .named .text-is, h .named .lengths-are, c .rules-are, s .heads-are, s .starts-are, s .entries-are) (book-is (d .names) (d .rules))
+      let n = s .names-stored in
+      let r = s .rules-stored in
+      rw (c .names-are, n .text-is, n .lengths-are, c .rules-are, r .heads-are, r .starts-are, r .entries-are) (book-is (d .names) (d .rules))

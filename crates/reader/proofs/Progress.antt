@@ -2,7 +2,7 @@
 -- the outcome, as the end of the lines does.
 use mathlib.Core.Path.{_≡_, refl, sym, ap, _∙_}
 use mathlib.Core.Bool.{Bool, true, false, cond}
-use mathlib.Core.List.{List, []}
+use mathlib.Core.List.{List}
 use Prim.Native.Nat.{ℕ, _+_, _-_, _≤_, _<_, zero-le}
 use lib.ListN.{length, take, drop}
 use borrow.Author.Tests.{ne-eqb}
@@ -30,18 +30,18 @@ module _ (d : Content) (number : ℕ) (b : List ℕ) (at : ℕ) where
   lines-end h = ap (readLines EitherCase d number) (rest-none newline b at h)
 
 -- what has been read up to place `at`, and that what is left decides
-pub record ReadTo (b : List ℕ) (t : Counts) (at number : ℕ) (keys text lengths heads starts entries heads′ starts′ entries′ : List ℕ) : Type 0 where
+pub record ReadTo (b : List ℕ) (t : Counts) (at number : ℕ) (keys text lengths heads starts entries text′ lengths′ heads′ starts′ entries′ : List ℕ) : Type 0 where
   pub content : Content
-  pub held : Holds content t keys text lengths
-  pub stored : Stored [] heads starts entries → Stored (content .rules) heads′ starts′ entries′
+  pub held : Holds content t keys
+  pub stored : Stored nothingYet text lengths heads starts entries → Stored content text′ lengths′ heads′ starts′ entries′
   pub same : readLines EitherCase content number (rest newline b at) ≡ readLines EitherCase nothingYet 1 (split newline b)
 
-pub read-none : (b : List ℕ) {keys text lengths heads starts entries : List ℕ} → Holds nothingYet noCounts keys text lengths
-    → ReadTo b noCounts 0 1 keys text lengths heads starts entries heads starts entries
+pub read-none : (b : List ℕ) {keys text lengths heads starts entries : List ℕ} → Holds nothingYet noCounts keys
+    → ReadTo b noCounts 0 1 keys text lengths heads starts entries text lengths heads starts entries
 read-none b h = record { content = nothingYet; held = h; stored = λ s. s; same = ap (readLines EitherCase nothingYet 1) (rest-here newline b 0 zero-le) }
 
-module _ {b : List ℕ} {t : Counts} {at number : ℕ} {keys text lengths heads starts entries heads′ starts′ entries′ : List ℕ}
-    (read : ReadTo b t at number keys text lengths heads starts entries heads′ starts′ entries′) (none-left : length b < at) where
+module _ {b : List ℕ} {t : Counts} {at number : ℕ} {keys text lengths heads starts entries text′ lengths′ heads′ starts′ entries′ : List ℕ}
+    (read : ReadTo b t at number keys text lengths heads starts entries text′ lengths′ heads′ starts′ entries′) (none-left : length b < at) where
   outcome : (x : Bool) → t .ended ≡ x
       → readLines EitherCase nothingYet 1 (split newline b) ≡ cond x (accepted (read .content .names) (read .content .rules)) (refused 9 number)
   outcome x e =
@@ -49,9 +49,9 @@ module _ {b : List ℕ} {t : Counts} {at number : ℕ} {keys text lengths heads 
       sym (read .same) ∙ lines-end d number b at none-left ∙ ap (λ (z : Bool). cond z (accepted (d .names) (d .rules)) (refused 9 number)) (sym (read .held .counted .ended-is) ∙ e)
 
   by-end : (x : Bool) → t .ended ≡ x
-      → FileRead (readLines EitherCase nothingYet 1 (split newline b)) (cond x (whole.Fine t) (whole.Fault 9 number)) keys text lengths heads starts entries heads′ starts′ entries′
+      → FileRead (readLines EitherCase nothingYet 1 (split newline b)) (cond x (whole.Fine t) (whole.Fault 9 number)) keys text lengths heads starts entries text′ lengths′ heads′ starts′ entries′
   by-end true e = record { answer = record { content = read .content; outcome = outcome true e; held = read .held; stored = read .stored } }
   by-end false e = record { answer = outcome false e }
 
-  pub read-last : FileRead (readLines EitherCase nothingYet 1 (split newline b)) (lastAnswer t number) keys text lengths heads starts entries heads′ starts′ entries′
+  pub read-last : FileRead (readLines EitherCase nothingYet 1 (split newline b)) (lastAnswer t number) keys text lengths heads starts entries text′ lengths′ heads′ starts′ entries′
   read-last = by-end (t .ended) refl

@@ -18,7 +18,7 @@ use Rattle.reader.proofs.Outcomes.{names-loaded, rules-loaded}
 
 -- ---- the answer by the counts and by the refusal
 
-pub counted-size : {d : Content} {t : Counts} {keys text lengths : List ℕ} → Holds d t keys text lengths
+pub counted-size : {d : Content} {t : Counts} {keys : List ℕ} → Holds d t keys
     → _≡_ {A = SizeAnswer} (Accepted (t .names) (t .rules) (t .used)) (sizeOf (accepted (d .names) (d .rules)))
 unfolding sizeOf
 counted-size h = rw (h .counted .names-are, h .counted .rules-are, h .counted .used-are)

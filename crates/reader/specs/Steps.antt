@@ -2,7 +2,7 @@
 -- and `size` cite none of this.
 use mathlib.Core.Path.{_≡_}
 use mathlib.Core.Bool.{Bool, true, false, cond}
-use mathlib.Core.List.{List, [], map}
+use mathlib.Core.List.{List, map}
 use Prim.Native.Nat.{ℕ, _+_, _*_, _≤_, _<_}
 use lib.ListN.{length}
 use lib.Seq.{sets}
@@ -16,7 +16,7 @@ use Rattle.book.specs.Book.{find, codeOf, textTable, lengthTable, headTable, st
 use Rattle.book.specs.declared.Found.{Found}
 use Rattle.book.specs.declared.Found.the-variants.{Nothing, At}
 use Rattle.keys.specs.Keyed.{Keyed}
-use Rattle.reader.specs.File.{Content, bodyLiterals, allFields, isKnown, faultOf, lineFault, entryFrom, extended, withLine, Outcome, accepted, refused}
+use Rattle.reader.specs.File.{Content, nothingYet, bodyLiterals, allFields, isKnown, faultOf, lineFault, entryFrom, extended, withLine, Outcome, accepted, refused}
 use Rattle.reader.specs.declared.Counts.{Counts}
 use Rattle.reader.specs.declared.LineAnswer.{LineAnswer}
 use Rattle.reader.specs.declared.LineAnswer.the-variants.{Fine, Fault}
@@ -44,23 +44,27 @@ pub record Counted (d : Content) (t : Counts) : Type 0 where
   pub ended-is : t .ended ≡ d .ended
   pub fits : Fits t
 
--- the tables have the names
-pub record NameTable (names : List (List ℕ)) (text lengths : List ℕ) : Type 0 where
+-- what a line is judged by: the counts and the names' keys
+pub record Holds (d : Content) (t : Counts) (keys : List ℕ) : Type 0 where
+  pub counted : Counted d t
+  pub keyed : Keyed (d .names) keys
+
+-- the slices hold the names
+pub record NamesStored (names : List (List ℕ)) (text lengths : List ℕ) : Type 0 where
   pub text-is : text ≡ textTable names
   pub lengths-are : lengths ≡ lengthTable names
   pub short : (n : List ℕ) → n isIn names → length n ≤ maxLength
 
--- what a line is judged by: the counts and the names' keys; the names themselves are stored for the book
-pub record Holds (d : Content) (t : Counts) (keys text lengths : List ℕ) : Type 0 where
-  pub counted : Counted d t
-  pub keyed : Keyed (d .names) keys
-  pub named : NameTable (d .names) text lengths
-
 -- the slices hold the rules
-pub record Stored (rules : List Rule) (heads starts entries : List ℕ) : Type 0 where
+pub record RulesStored (rules : List Rule) (heads starts entries : List ℕ) : Type 0 where
   pub heads-are : heads ≡ headTable rules
   pub starts-are : starts ≡ startTable rules
   pub entries-are : entries ≡ entryTable rules
+
+-- the slices hold the book
+pub record Stored (d : Content) (text lengths heads starts entries : List ℕ) : Type 0 where
+  pub names-stored : NamesStored (d .names) text lengths
+  pub rules-stored : RulesStored (d .rules) heads starts entries
 
 -- ---- the fields of a rule
 
@@ -103,15 +107,23 @@ abbrev pub wordStep : Content → Word → List (List ℕ) → Step
 wordStep d w others = record { old = d; new = extended EitherCase d w others; fault = faultOf EitherCase d w others }
 
 -- the answer: the line's fault, or where that is 0 the counts of what the lines say with it
-abbrev pub Answered : Step → LineAnswer → List ℕ → List ℕ → List ℕ → Type 0
-Answered s (Fine t) keys text lengths = (s .fault ≡ 0) × Holds (s .new) t keys text lengths
-Answered s (Fault k) keys text lengths = (s .fault ≡ k) × (k ≡ 0 → ⊥)
+abbrev pub Answered : Step → LineAnswer → List ℕ → Type 0
+Answered s (Fine t) keys = (s .fault ≡ 0) × Holds (s .new) t keys
+Answered s (Fault k) keys = (s .fault ≡ k) × (k ≡ 0 → ⊥)
 
--- Slices that held the rules hold them after a line without a fault. The answer is the same over slices of every length: over empty ones a line is judged
--- and counted, and nothing is stored.
-pub record LineRead (s : Step) (r : LineAnswer) (keys text lengths heads starts entries heads′ starts′ entries′ : List ℕ) : Type 0 where
-  pub answer : Answered s r keys text lengths
-  pub stored : s .fault ≡ 0 → Stored (s .old .rules) heads starts entries → Stored (s .new .rules) heads′ starts′ entries′
+-- Slices that held the book hold it after a line without a fault. The answer is the same over slices of every length: over empty ones a line is judged and
+-- counted, and nothing is stored. A line that declares a name leaves the rules, and one that gives a rule leaves the names.
+pub record NameRead (s : Step) (r : LineAnswer) (keys text lengths text′ lengths′ : List ℕ) : Type 0 where
+  pub answer : Answered s r keys
+  pub stored : s .fault ≡ 0 → NamesStored (s .old .names) text lengths → NamesStored (s .new .names) text′ lengths′
+
+pub record RuleRead (s : Step) (r : LineAnswer) (keys heads starts entries heads′ starts′ entries′ : List ℕ) : Type 0 where
+  pub answer : Answered s r keys
+  pub stored : s .fault ≡ 0 → RulesStored (s .old .rules) heads starts entries → RulesStored (s .new .rules) heads′ starts′ entries′
+
+pub record LineRead (s : Step) (r : LineAnswer) (keys text lengths heads starts entries text′ lengths′ heads′ starts′ entries′ : List ℕ) : Type 0 where
+  pub answer : Answered s r keys
+  pub stored : s .fault ≡ 0 → Stored (s .old) text lengths heads starts entries → Stored (s .new) text′ lengths′ heads′ starts′ entries′
 
 -- ---- a file
 
@@ -119,18 +131,18 @@ pub record LineRead (s : Step) (r : LineAnswer) (keys text lengths heads starts 
 abbrev pub lastAnswer : Counts → ℕ → FileAnswer
 lastAnswer t line = cond (t .ended) (whole.Fine t) (whole.Fault 9 line)
 
--- what an accepted file says, held and counted; slices that held no rules hold its rules
-pub record FineFile (o : Outcome) (t : Counts) (keys text lengths heads starts entries heads′ starts′ entries′ : List ℕ) : Type 0 where
+-- what an accepted file says, held and counted; slices that held nothing hold its book
+pub record FineFile (o : Outcome) (t : Counts) (keys text lengths heads starts entries text′ lengths′ heads′ starts′ entries′ : List ℕ) : Type 0 where
   pub content : Content
   pub outcome : o ≡ accepted (content .names) (content .rules)
-  pub held : Holds content t keys text lengths
-  pub stored : Stored [] heads starts entries → Stored (content .rules) heads′ starts′ entries′
+  pub held : Holds content t keys
+  pub stored : Stored nothingYet text lengths heads starts entries → Stored content text′ lengths′ heads′ starts′ entries′
 
-abbrev pub FileAnswered : Outcome → FileAnswer → List ℕ → List ℕ → List ℕ → List ℕ → List ℕ → List ℕ → List ℕ → List ℕ → List ℕ → Type 0
-FileAnswered o (whole.Fine t) keys text lengths heads starts entries heads′ starts′ entries′ =
-    FineFile o t keys text lengths heads starts entries heads′ starts′ entries′
-FileAnswered o (whole.Fault number line) keys text lengths heads starts entries heads′ starts′ entries′ = o ≡ refused number line
+abbrev pub FileAnswered : Outcome → FileAnswer → List ℕ → List ℕ → List ℕ → List ℕ → List ℕ → List ℕ → List ℕ → List ℕ → List ℕ → List ℕ → List ℕ → Type 0
+FileAnswered o (whole.Fine t) keys text lengths heads starts entries text′ lengths′ heads′ starts′ entries′ =
+    FineFile o t keys text lengths heads starts entries text′ lengths′ heads′ starts′ entries′
+FileAnswered o (whole.Fault number line) keys text lengths heads starts entries text′ lengths′ heads′ starts′ entries′ = o ≡ refused number line
 
--- As for a line, the answer is the same over rules' slices of every length.
-pub record FileRead (o : Outcome) (r : FileAnswer) (keys text lengths heads starts entries heads′ starts′ entries′ : List ℕ) : Type 0 where
-  pub answer : FileAnswered o r keys text lengths heads starts entries heads′ starts′ entries′
+-- As for a line, the answer is the same over slices of every length.
+pub record FileRead (o : Outcome) (r : FileAnswer) (keys text lengths heads starts entries text′ lengths′ heads′ starts′ entries′ : List ℕ) : Type 0 where
+  pub answer : FileAnswered o r keys text lengths heads starts entries text′ lengths′ heads′ starts′ entries′

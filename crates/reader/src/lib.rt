@@ -12,7 +12,7 @@ ghost use Rattle.keys.specs.Keyed.{Keyed};
 ghost use Rattle.reader.specs.File.{Content, nothingYet, allFields, isLiteral, wrongFields, malformed, accepted, refused, readLines, readFile};
 ghost use Rattle.reader.specs.Loading.{loadedOf};
 ghost use Rattle.reader.specs.Sizing.{sizeOf};
-ghost use Rattle.reader.specs.Steps.{noCounts, Fits, Holds, Stored, KnownAmong, FieldsKnown, lineStep, wordStep, Answered, LineRead, lastAnswer, FileRead};
+ghost use Rattle.reader.specs.Steps.{noCounts, Fits, Holds, Stored, KnownAmong, FieldsKnown, lineStep, wordStep, NameRead, RuleRead, LineRead, lastAnswer, FileRead};
 use book::Book;
 use book::Found;
 use scan::Alphabet;
@@ -54,8 +54,9 @@ fn name_line(
     name: &[u8],
 ) -> LineAnswer
     requires { ⌜ Fits t × (t .ended ≡ false) ⌝ }
-    ensures { λ r. ⌜ ((d : Content) → Holds d t (now (keys .entry)) (now (text .entry)) (now (lengths .entry))
-        → Answered (wordStep d Name (now (name .entry) ∷ [])) r (now (keys .exit)) (now (text .exit)) (now (lengths .exit))) ⌝ }
+    ensures { λ r. ⌜ ((d : Content) → Holds d t (now (keys .entry))
+        → NameRead (wordStep d Name (now (name .entry) ∷ [])) r (now (keys .exit))
+        (now (text .entry)) (now (lengths .entry)) (now (text .exit)) (now (lengths .exit))) ⌝ }
 {
     if !scan::is_name(name) {
         return LineAnswer::Fault(5);
@@ -175,8 +176,8 @@ fn rule_line(
     n: usize,
 ) -> LineAnswer
     requires { ⌜ Fits t × (t .ended ≡ false) × (n ≤ maxBody) × (n + 1 ≡ length (fields (now rule))) ⌝ }
-    ensures { λ r. ⌜ ((d : Content) (text lengths : List ℕ) → Holds d t (now (keys .entry)) text lengths
-        → LineRead (wordStep d RuleWord (fields (now (rule .entry)))) r (now (keys .entry)) text lengths
+    ensures { λ r. ⌜ ((d : Content) → Holds d t (now (keys .entry))
+        → RuleRead (wordStep d RuleWord (fields (now (rule .entry)))) r (now (keys .entry))
         (now (heads .entry)) (now (starts .entry)) (now (entries .entry)) (now (heads .exit)) (now (starts .exit)) (now (entries .exit))) ⌝ }
 {
     if !well_formed(rule) {
@@ -230,9 +231,10 @@ fn judge(
     line: &[u8],
 ) -> LineAnswer
     requires { ⌜ Fits t ⌝ }
-    ensures { λ r. ⌜ ((d : Content) → Holds d t (now (keys .entry)) (now (text .entry)) (now (lengths .entry))
-        → LineRead (lineStep d (fields (now (line .entry)))) r (now (keys .exit)) (now (text .exit)) (now (lengths .exit))
-        (now (heads .entry)) (now (starts .entry)) (now (entries .entry)) (now (heads .exit)) (now (starts .exit)) (now (entries .exit))) ⌝ }
+    ensures { λ r. ⌜ ((d : Content) → Holds d t (now (keys .entry))
+        → LineRead (lineStep d (fields (now (line .entry)))) r (now (keys .exit))
+        (now (text .entry)) (now (lengths .entry)) (now (heads .entry)) (now (starts .entry)) (now (entries .entry))
+        (now (text .exit)) (now (lengths .exit)) (now (heads .exit)) (now (starts .exit)) (now (entries .exit))) ⌝ }
 {
     if t.ended {
         return LineAnswer::Fault(9);
@@ -288,9 +290,10 @@ fn read_lines(
     starts: &mut [u16],
     entries: &mut [u16],
 ) -> FileAnswer
-    requires { ⌜ Holds nothingYet noCounts (now keys) (now text) (now lengths) ⌝ }
-    ensures { λ r. ⌜ FileRead (readLines EitherCase nothingYet 1 (split newline (now (b .entry)))) r (now (keys .exit)) (now (text .exit)) (now (lengths .exit))
-        (now (heads .entry)) (now (starts .entry)) (now (entries .entry)) (now (heads .exit)) (now (starts .exit)) (now (entries .exit)) ⌝ }
+    requires { ⌜ Holds nothingYet noCounts (now keys) ⌝ }
+    ensures { λ r. ⌜ FileRead (readLines EitherCase nothingYet 1 (split newline (now (b .entry)))) r (now (keys .exit))
+        (now (text .entry)) (now (lengths .entry)) (now (heads .entry)) (now (starts .entry)) (now (entries .entry))
+        (now (text .exit)) (now (lengths .exit)) (now (heads .exit)) (now (starts .exit)) (now (entries .exit)) ⌝ }
 {
     let mut t = none_yet();
     let mut at = 0;
@@ -324,7 +327,7 @@ fn read_lines(
     last_answer(t, number)
 }
 
-// The file, into the tables that are lent for it: a rule that lies past them is judged and counted, and not stored.
+// The file, into the tables that are lent for it: a name or a rule that lies past them is judged and counted, and not stored.
 fn read_file(
     file: &[u8],
     keys: &mut [u64],
@@ -335,9 +338,10 @@ fn read_file(
     starts: &mut [u16],
     entries: &mut [u16],
 ) -> FileAnswer
-    requires { ⌜ Holds nothingYet noCounts (now keys) (now text) (now lengths) ⌝ }
-    ensures { λ r. ⌜ FileRead (readFile EitherCase (now (file .entry))) r (now (keys .exit)) (now (text .exit)) (now (lengths .exit))
-        (now (heads .entry)) (now (starts .entry)) (now (entries .entry)) (now (heads .exit)) (now (starts .exit)) (now (entries .exit)) ⌝ }
+    requires { ⌜ Holds nothingYet noCounts (now keys) ⌝ }
+    ensures { λ r. ⌜ FileRead (readFile EitherCase (now (file .entry))) r (now (keys .exit))
+        (now (text .entry)) (now (lengths .entry)) (now (heads .entry)) (now (starts .entry)) (now (entries .entry))
+        (now (text .exit)) (now (lengths .exit)) (now (heads .exit)) (now (starts .exit)) (now (entries .exit)) ⌝ }
 {
     let n = file.len();
     if MAX_BYTES < n {
@@ -396,7 +400,7 @@ fn accepted_with(
     starts: [u16; book::MAX_STARTS],
     entries: [u16; book::MAX_ENTRIES],
 ) -> Loaded
-    ensures { λ r. ⌜ ((d : Content) (keys : List ℕ) → Holds d t keys text lengths → Stored (d .rules) heads starts entries
+    ensures { λ r. ⌜ ((d : Content) (keys : List ℕ) → Holds d t keys → Stored d text lengths heads starts entries
         → r ≡ loadedOf (accepted (d .names) (d .rules))) ⌝ }
 {
     Loaded {
@@ -453,21 +457,19 @@ pub enum SizeAnswer {
     },
 }
 
-// How much of each table a file fills, with no book stored: it is read as for loading, over slices that have no room for a rule. The names are kept,
-// since 6 and 7 look them up.
+// How much of each table a file fills, with no book stored: it is read as for loading, over slices that have no room for a name or a rule. The keys of the
+// names are kept, since 6 and 7 look names up.
 pub fn size(file: &[u8]) -> SizeAnswer
     ensures { λ r. ⌜ r ≡ sizeOf (readFile EitherCase (now (file .entry))) ⌝ }
 {
     let mut keys = [0u64; keys::MAX_KEYS];
     let mut hints = [0u8; keys::MAX_HINTS];
-    let mut text = [0u8; book::MAX_TEXT];
-    let mut lengths = [0u8; book::MAX_NAMES];
     match read_file(
         file,
         &mut keys,
         &mut hints,
-        &mut text,
-        &mut lengths,
+        &mut [],
+        &mut [],
         &mut [],
         &mut [],
         &mut [],

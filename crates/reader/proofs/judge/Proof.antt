@@ -18,7 +18,7 @@ use Rattle.reader.specs.Steps.{Step, lineStep, wordStep}
 use Rattle.reader.proofs.Fields.{first-field}
 use Rattle.reader.proofs.Numbers.{fault-ended, fault-fields, not-ended, end-fine}
 use Rattle.reader.proofs.Held.{end-held}
-use Rattle.reader.proofs.Answers.{by-word, line-fault, name-read, end-read, read-as}
+use Rattle.reader.proofs.Answers.{by-word, line-fault, name-read, rule-read, end-read, read-as}
 use Rattle.reader.proofs.judge.Statement.{statement}
 use Rattle.reader.proofs.judge.Tie as tie
 
@@ -226,7 +226,7 @@ same-length-9 c = search needs
 returns-4 : tie.Need-returns-4
 returns-4 c =
     let arm = at-rule (after-rule c .before) in
-    λ d h. read-as (after-rule c .rule-line .ensures d _ _ h) (step (arm .before .before .before .before) (arm .enum-told2 .given .1) d ∙ ap (wordStep d RuleWord) (sym (rule-part arm)))
+    λ d h. read-as (rule-read d _ (after-rule c .rule-line .ensures d h)) (step (arm .before .before .before .before) (arm .enum-told2 .given .1) d ∙ ap (wordStep d RuleWord) (sym (rule-part arm)))
 
 returns-5 : tie.Need-returns-5
 returns-5 c =

@@ -8,14 +8,16 @@ use native.Mathlib.Omega.{arith}
 use borrow.Author.Tests.{not-true, not-false}
 use Rattle.scan.specs.Text.{isName}
 use Rattle.scan.specs.declared.Alphabet.the-variants.{EitherCase}
+use Rattle.scan.specs.declared.Word.the-variants.{Name}
 use Rattle.scan.proofs.Names.{name-fits}
 use Rattle.book.specs.Limits.{maxNames}
 use Rattle.book.specs.Book.{find}
 use Rattle.keys.specs.Keyed.{KeyFor}
 use Rattle.reader.specs.File.{Content, isFound}
-use Rattle.reader.specs.Steps.{Holds}
+use Rattle.reader.specs.Steps.{Holds, wordStep}
 use Rattle.reader.proofs.Numbers.{name-malformed, name-declared, name-beyond, name-fine}
-use Rattle.reader.proofs.Held.{names-held, name-held}
+use Rattle.reader.proofs.Held.{names-held, name-held, name-stored}
+use Rattle.reader.proofs.Answers.{name-fault}
 use Rattle.reader.proofs.name_line.Statement.{statement}
 use Rattle.reader.proofs.name_line.Tie as tie
 
@@ -58,7 +60,7 @@ key-for c = record { key-is = c .key-of .ensures .0; bytes = c .key-of .ensures 
 
 -- the lines before say d
 abbrev Said : tie.After-find → Content → Type 0
-Said c d = Holds d (start-of c .args .t) (start-of c .args .keys .now) (start-of c .args .text .now) (start-of c .args .lengths .now)
+Said c d = Holds d (start-of c .args .t) (start-of c .args .keys .now)
 
 -- the look-up among the names said
 found : (c : tie.After-find) {d : Content} → Said c d → c .find .result ≡ find EitherCase (d .names) (name-of (at-test c .before))
@@ -72,7 +74,7 @@ is-name-requires c κs = search needs
 returns : tie.Need-returns
 returns c =
     let going = at-start (c .before) .pre .1 in
-    λ d h. (name-malformed (h .counted) going _ (sym (c .before .is-name .ensures) ∙ not-true (c .before .is-name .result) (c .if1 .taken)), λ z. omega arith)
+    λ d h. name-fault (wordStep d Name _) (name-malformed (h .counted) going _ (sym (c .before .is-name .ensures) ∙ not-true (c .before .is-name .result) (c .if1 .taken))) (λ z. omega arith)
 
 key-of-requires : tie.Need-key-of-requires
 key-of-requires c κs = search needs
@@ -95,7 +97,7 @@ same-length-2 c = search needs
 returns-2 : tie.Need-returns-2
 returns-2 c =
     let look = c .before .before in
-    λ d h. (name-declared (h .counted) (start-of look .pre .1) _ (named (at-test look)) (ap isFound (sym (found look h) ∙ c .enum-told2 .given .1)), λ z. omega arith)
+    λ d h. name-fault (wordStep d Name _) (name-declared (h .counted) (start-of look .pre .1) _ (named (at-test look)) (ap isFound (sym (found look h) ∙ c .enum-told2 .given .1))) (λ z. omega arith)
 
 same-length-3 : tie.Need-same-length-3
 same-length-3 c = search needs
@@ -106,10 +108,9 @@ same-length-4 c = search needs
 returns-3 : tie.Need-returns-3
 returns-3 c =
     let look = c .before .before .before in
-    λ d h. (
-      name-beyond (h .counted) (start-of look .pre .1) _ (named (at-test look)) (ap isFound (sym (found look h) ∙ c .before .enum-told .given .1)) (omega (arith, c .if2 .taken)),
-      λ z. omega arith,
-    )
+    λ d h. name-fault (wordStep d Name _)
+    (name-beyond (h .counted) (start-of look .pre .1) _ (named (at-test look)) (ap isFound (sym (found look h) ∙ c .before .enum-told .given .1)) (omega (arith, c .if2 .taken)))
+    (λ z. omega arith)
 
 put-requires : tie.Need-put-requires
 put-requires c κs = search needs
@@ -153,11 +154,14 @@ returns-4 c =
     let room : start .args .t .names < maxNames = omega (arith, counted .if2 .left) in
     let is-named = named (at-test look) in
     let short = name-fits EitherCase _ is-named .1 in
-    λ d h. let new = sym (found look h) ∙ counted .before .enum-told .given .1 in (
-      name-fine (h .counted) (start .pre .1) _ is-named (ap isFound new) room,
-      name-held h (name-of (at-test look .before)) room short
-          (at-put text .put .ensures (d .names) _ (h .keyed) (names-held h) room (key-for (at-key look)) short new) (text .put-all .ensures) (c .before .before .put8 .ensures),
-    )
+    λ d h. let new = sym (found look h) ∙ counted .before .enum-told .given .1 in
+    record {
+      answer = (
+        name-fine (h .counted) (start .pre .1) _ is-named (ap isFound new) room,
+        name-held h (name-of (at-test look .before)) room (at-put text .put .ensures (d .names) _ (h .keyed) (names-held h) room (key-for (at-key look)) short new),
+      );
+      stored = λ z. name-stored h (name-of (at-test look .before)) room short (text .put-all .ensures) (c .before .before .put8 .ensures);
+    }
 
 pub name-line-spec : {M : Type 1} → statement M
 name-line-spec =

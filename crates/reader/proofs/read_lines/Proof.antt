@@ -15,7 +15,7 @@ use Rattle.reader.proofs.read_lines.Tie as tie
 
 abbrev Inv-loop : tie.InvT-loop
 Inv-loop b keys₀ hints₀ text₀ lengths₀ heads₀ starts₀ entries₀ t₀ at₀ number₀ keys hints text lengths heads starts entries t at number =
-    (at ≤ length b + 1) × (number ≤ at + 1) × ReadTo b t at number keys text lengths heads₀ starts₀ entries₀ heads starts entries
+    (at ≤ length b + 1) × (number ≤ at + 1) × ReadTo b t at number keys text₀ lengths₀ heads₀ starts₀ entries₀ text lengths heads starts entries
     × (length keys ≡ length keys₀) × (length hints ≡ length hints₀)
     × (length text ≡ length text₀) × (length lengths ≡ length lengths₀)
     × (length heads ≡ length heads₀) × (length starts ≡ length starts₀) × (length entries ≡ length entries₀)

@@ -19,7 +19,7 @@ use Rattle.reader.specs.declared.Known.the-variants.{Entry}
 use Rattle.reader.proofs.Fields.{first-field, first-passes, first-fails, not-declared, is-declared, literal-is}
 use Rattle.reader.proofs.Numbers.{rule-malformed, rule-undeclared, rule-too-many, rule-too-long, rule-fine}
 use Rattle.reader.proofs.Held.{names-held, rule-held, rule-stored}
-use Rattle.reader.proofs.Answers.{line-fault}
+use Rattle.reader.proofs.Answers.{rule-fault}
 use Rattle.reader.proofs.rule_line.Statement.{statement}
 use Rattle.reader.proofs.rule_line.Tie as tie
 
@@ -49,8 +49,8 @@ at-stores c = c .before .before .before .before .before .before .before .before
 -- ---- what is known there
 
 -- the lines before say d
-abbrev Said : tie.After-well-formed → Content → List ℕ → List ℕ → Type 0
-Said c d text lengths = Holds d (at-start c .args .t) (at-start c .args .keys .now) text lengths
+abbrev Said : tie.After-well-formed → Content → Type 0
+Said c d = Holds d (at-start c .args .t) (at-start c .args .keys .now)
 
 abbrev fields-of : tie.After-well-formed → List (List ℕ)
 fields-of c = fields (at-start c .args .rule .now)
@@ -73,20 +73,20 @@ formed : (c : tie.After-end-of) → malformed EitherCase RuleWord (fields-of (at
 formed c = not-true _ (sym (at-forms c .well-formed .ensures) ∙ not-false _ (c .before .if1 .left))
 
 -- the head looked up among the names said
-looked-up : (c : tie.After-known-of) {d : Content} {text lengths : List ℕ} → Said (at-forms (c .before .before)) d text lengths → {k : Known} → c .known-of .result ≡ k → knownOf (d .names) (head-field (c .before .before)) ≡ k
+looked-up : (c : tie.After-known-of) {d : Content} → Said (at-forms (c .before .before)) d → {k : Known} → c .known-of .result ≡ k → knownOf (d .names) (head-field (c .before .before)) ≡ k
 looked-up c {d} h e = sym (c .known-of .ensures .known (d .names) (h .keyed) (names-held h)) ∙ e
 
-head-entry : (c : tie.After-known-told) {d : Content} {text lengths : List ℕ} → Said (at-forms (at-end c)) d text lengths
+head-entry : (c : tie.After-known-told) {d : Content} → Said (at-forms (at-end c)) d
     → knownOf (d .names) (head-field (at-end c)) ≡ Entry (c .before .literal .given .0 .0) (c .before .literal .given .0 .1 .0)
 head-entry c h = looked-up (at-head c) h (c .before .literal .given .1)
 
 -- the body looked up among the names said
-body-known : (c : tie.After-all-known) {d : Content} {text lengths : List ℕ} → Said (at-forms (at-end (at-known c))) d text lengths
+body-known : (c : tie.After-all-known) {d : Content} → Said (at-forms (at-end (at-known c))) d
     → FieldsKnown (d .names) (others (at-end (at-known c))) (at-start (at-forms (at-end (at-known c))) .args .t .used) (c .all-known .result) (at-start (at-forms (at-end (at-known c))) .args .entries .now) (c .all-known .last .1 .1 .1 .0)
 body-known c {d} h = c .all-known .ensures (d .names) (h .keyed) (names-held h)
 
 -- the fields behind the head decide whether all names are declared
-known-by-body : (c : tie.After-all-known) {d : Content} {text lengths : List ℕ} → Said (at-forms (at-end (at-known c))) d text lengths
+known-by-body : (c : tie.After-all-known) {d : Content} → Said (at-forms (at-end (at-known c))) d
     → allFields (isKnown EitherCase (d .names)) (fields-of (at-forms (at-end (at-known c)))) ≡ c .all-known .result
 known-by-body c {d} h =
     let end = at-end (at-known c) in
@@ -106,7 +106,7 @@ returns : tie.Need-returns
 returns c =
     let s = at-start (c .before) in
     let bad = not-false _ (sym (c .before .well-formed .ensures) ∙ not-true _ (c .if1 .taken)) in
-    λ d text lengths h. line-fault (wordStep d RuleWord (fields-of (c .before))) (rule-malformed (h .counted) (s .pre .1) _ (s .args .n) (s .pre .3) (s .pre .2) bad) (λ z. omega arith)
+    λ d h. rule-fault (wordStep d RuleWord (fields-of (c .before))) (rule-malformed (h .counted) (s .pre .1) _ (s .args .n) (s .pre .3) (s .pre .2) bad) (λ z. omega arith)
 
 end-of-requires : tie.Need-end-of-requires
 end-of-requires c κs = search needs
@@ -134,8 +134,8 @@ returns-2 c =
     let looked = c .before .before in
     let end = looked .before .before in
     let s = at-start (at-forms end) in
-    λ d text lengths h. let unknown = not-declared (d .names) (head-field end) (looked-up looked h (c .enum-told .given .1)) in
-    line-fault (wordStep d RuleWord (fields-of (at-forms end)))
+    λ d h. let unknown = not-declared (d .names) (head-field end) (looked-up looked h (c .enum-told .given .1)) in
+    rule-fault (wordStep d RuleWord (fields-of (at-forms end)))
     (rule-undeclared (h .counted) (s .pre .1) _ (s .args .n) (s .pre .3) (s .pre .2) (formed end) (ap (allFields (isKnown EitherCase (d .names))) (parted end) ∙ first-fails (isKnown EitherCase (d .names)) _ _ unknown))
     (λ z. omega arith)
 
@@ -156,7 +156,7 @@ returns-3 c =
     let body = c .before .before .before in
     let end = at-end (at-known body) in
     let s = at-start (at-forms end) in
-    λ d text lengths h. line-fault (wordStep d RuleWord (fields-of (at-forms end)))
+    λ d h. rule-fault (wordStep d RuleWord (fields-of (at-forms end)))
     (rule-undeclared (h .counted) (s .pre .1) _ (s .args .n) (s .pre .3) (s .pre .2) (formed end) (known-by-body body h ∙ not-true _ (c .if2 .taken)))
     (λ z. omega arith)
 
@@ -172,8 +172,8 @@ returns-4 c =
     let body = at-body counts in
     let end = at-end (at-known body) in
     let s = at-start (at-forms end) in
-    λ d text lengths h. let known = known-by-body body h ∙ not-false _ (counts .if2 .left) in
-    line-fault (wordStep d RuleWord (fields-of (at-forms end)))
+    λ d h. let known = known-by-body body h ∙ not-false _ (counts .if2 .left) in
+    rule-fault (wordStep d RuleWord (fields-of (at-forms end)))
     (⊎-elim
     (λ many. rule-too-many (h .counted) (s .pre .1) _ (s .args .n) (s .pre .3) (s .pre .2) (formed end) known (omega (arith, many .taken)))
     (λ long. rule-too-long (h .counted) (s .pre .1) _ (s .args .n) (s .pre .3) (s .pre .2) (formed end) known (ltb-true _ _ (long .1 .taken)))
@@ -221,7 +221,7 @@ returns-5 c =
     let room : s .args .t .rules < maxRules = omega (arith, at-stores c .before .if3 .left) in
     let fits = body-fits (at-stores c) in
     let all-known = not-false _ (counts .if2 .left) in
-    λ d text lengths h. record {
+    λ d h. record {
       answer = (
         rule-fine (h .counted) (s .pre .1) _ (s .args .n) (s .pre .3) (s .pre .2) (formed end) (known-by-body body h ∙ all-known) room fits,
         rule-held h (head-field end) (others end) (parted end) (s .args .n) (s .pre .3) room fits,
