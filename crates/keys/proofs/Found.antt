@@ -8,7 +8,8 @@ use native.Mathlib.Omega.{arith}
 use native.Mathlib.Numerals.{add-one}
 use lib.ListN.{length, getD, drop, drop-of-length-le}
 use lib.Seq.{drop-cons}
-use Rattle.scan.specs.Text.{sameKey, sameName}
+use Rattle.scan.specs.Text.{sameName}
+use Rattle.scan.specs.Keys.{sameKey}
 use Rattle.scan.specs.declared.Alphabet.the-variants.{EitherCase}
 use Rattle.scan.specs.declared.Key.{Key}
 use Rattle.scan.proofs.Names.{same-decides}

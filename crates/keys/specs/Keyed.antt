@@ -3,7 +3,8 @@ use mathlib.Core.Path.{_≡_}
 use mathlib.Core.List.{List, []}
 use Prim.Native.Nat.{ℕ, _+_, _*_, _≤_, _<_}
 use lib.ListN.{length, getD, set}
-use Rattle.scan.specs.Text.{maxLength, Bytes, keyOf}
+use Rattle.scan.specs.Text.{maxLength}
+use Rattle.scan.specs.Keys.{Bytes, keyOf}
 use Rattle.scan.specs.declared.Alphabet.the-variants.{EitherCase}
 use Rattle.scan.specs.declared.Key.{Key}
 use Rattle.book.specs.Limits.{maxNames}

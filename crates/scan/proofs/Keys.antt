@@ -11,7 +11,8 @@ use lib.Seq.{take-all, take-nil, take-add}
 use lib.Dec.{eqb, leb}
 use borrow.Author.Tests.{eq-eqb, eqb-true, leb-true}
 use Rattle.truth.proofs.Truth.{refuted, and-l, and-r}
-use Rattle.scan.specs.Text.{isCapital, small, countsAs, maxLength, folded, SameName, sameName, digitsOf, inWord, Bytes, wordFrom, keyOf, sameKey}
+use Rattle.scan.specs.Text.{isCapital, small, countsAs, maxLength, folded, SameName, sameName}
+use Rattle.scan.specs.Keys.{packed, inWord, Bytes, wordFrom, keyOf, sameKey}
 use Rattle.scan.specs.declared.Alphabet.{Alphabet}
 use Rattle.scan.specs.declared.Alphabet.the-variants.{SmallOnly, EitherCase}
 use Rattle.scan.specs.declared.Key.{Key}
@@ -21,26 +22,26 @@ use Rattle.scan.proofs.Names.{same-decides}
 -- ---- digits
 
 -- every element is a byte
-abbrev Digits : List ℕ → Type 0
-Digits [] = Unit
-Digits (x ∷ xs) = (x < 256) × Digits xs
+abbrev EachByte : List ℕ → Type 0
+EachByte [] = Unit
+EachByte (x ∷ xs) = (x < 256) × EachByte xs
 
-pub digits-more : (w b : ℕ) (bs : List ℕ) → digitsOf w (b ∷ bs) ≡ digitsOf (256 * w + b) bs
-unfolding digitsOf
-digits-more w b bs = refl
+pub packed-more : (w b : ℕ) (bs : List ℕ) → packed w (b ∷ bs) ≡ packed (256 * w + b) bs
+unfolding packed
+packed-more w b bs = refl
 
-pub digits-none : (w : ℕ) → digitsOf w [] ≡ w
-unfolding digitsOf
-digits-none w = refl
+pub packed-none : (w : ℕ) → packed w [] ≡ w
+unfolding packed
+packed-none w = refl
 
 -- numbers with as many digits are equal where all digits are
-digits-same : (v w : ℕ) (a b : List ℕ) → length a ≡ length b → Digits a → Digits b → digitsOf v a ≡ digitsOf w b → (v ≡ w) × (a ≡ b)
-unfolding digitsOf
-digits-same v w [] [] n p q e = (e, refl)
-digits-same v w [] (y ∷ ys) n p q e = absurd (omega arith)
-digits-same v w (x ∷ xs) [] n p q e = absurd (omega arith)
-digits-same v w (x ∷ xs) (y ∷ ys) n p q e =
-    let rest = digits-same (256 * v + x) (256 * w + y) xs ys (omega arith) (p .1) (q .1) e in
+packed-same : (v w : ℕ) (a b : List ℕ) → length a ≡ length b → EachByte a → EachByte b → packed v a ≡ packed w b → (v ≡ w) × (a ≡ b)
+unfolding packed
+packed-same v w [] [] n p q e = (e, refl)
+packed-same v w [] (y ∷ ys) n p q e = absurd (omega arith)
+packed-same v w (x ∷ xs) [] n p q e = absurd (omega arith)
+packed-same v w (x ∷ xs) (y ∷ ys) n p q e =
+    let rest = packed-same (256 * v + x) (256 * w + y) xs ys (omega arith) (p .1) (q .1) e in
     let heads = rest .0 in
     let first : x ≡ y = omega (arith, heads, p .0, q .0) in
     (omega (arith, heads, first), ap₂ (λ (z : ℕ) (zs : List ℕ). z ∷ zs) first (rest .1))
@@ -57,7 +58,7 @@ count-byte EitherCase b h = go (isCapital b) refl
     go false e = rw e h
 
 -- bytes count as bytes, however many of them are taken from whatever place
-count-bytes : (α : Alphabet) (n : ℕ) (s : List ℕ) → Bytes s → Digits (folded α (take n s))
+count-bytes : (α : Alphabet) (n : ℕ) (s : List ℕ) → Bytes s → EachByte (folded α (take n s))
 count-bytes α zero s h = tt
 count-bytes α (suc n) [] h = tt
 count-bytes α (suc n) (x ∷ xs) h = (count-byte α x (h 0), count-bytes α n xs (λ i. h (suc i)))
@@ -68,19 +69,19 @@ bytes-drop (suc k) [] h = h
 bytes-drop (suc k) (x ∷ xs) h = bytes-drop k xs (λ i. h (suc i))
 
 -- k digits make a number below 256 to the k
-pub digits-grow : (w b k : ℕ) → w < 256 ^ k → b < 256 → 256 * w + b < 256 ^ suc k
-digits-grow w b k h l = rw (pow-suc 256 k) (omega arith)
+pub packed-grow : (w b k : ℕ) → w < 256 ^ k → b < 256 → 256 * w + b < 256 ^ suc k
+packed-grow w b k h l = rw (pow-suc 256 k) (omega arith)
 
 -- so one more digit behind fewer than 8 leaves a number of the machine
-pub digits-fit : (w k : ℕ) → w < 256 ^ k → k < inWord → 256 * w + 255 < 18446744073709551616
-digits-fit w k h l =
+pub packed-fits : (w k : ℕ) → w < 256 ^ k → k < inWord → 256 * w + 255 < 18446744073709551616
+packed-fits w k h l =
     let most : 256 ^ suc k ≤ 256 ^ inWord = pow-le-pow-right {n = 256} (omega arith) {i = suc k} {j = inWord} l in
-    omega (arith, digits-grow w 255 k h (omega arith), most)
+    omega (arith, packed-grow w 255 k h (omega arith), most)
 
 -- for a loop over the places from `from` on, before `end`
 module _ (α : Alphabet) (s : List ℕ) where
   abbrev pub wordLeft : ℕ → ℕ → ℕ → ℕ
-  wordLeft w i end = digitsOf w (folded α (take (end - i) (drop i s)))
+  wordLeft w i end = packed w (folded α (take (end - i) (drop i s)))
 
   pub word-begins : (from : ℕ) → wordLeft 0 from (from + inWord) ≡ wordFrom α from s
   word-begins from = let size : from + inWord - from ≡ inWord = omega arith in rw size
@@ -88,14 +89,14 @@ module _ (α : Alphabet) (s : List ℕ) where
   pub word-step : (w i end : ℕ) → i < end → i < length s → wordLeft w i end ≡ wordLeft (256 * w + countsAs α (getD s i 0)) (i + 1) end
   word-step w i end h l =
       let more : end - i ≡ suc (end - (i + 1)) = omega arith in
-      rw (more, left-at s i l) (digits-more w (countsAs α (getD s i 0)) (folded α (take (end - (i + 1)) (drop (i + 1) s))))
+      rw (more, left-at s i l) (packed-more w (countsAs α (getD s i 0)) (folded α (take (end - (i + 1)) (drop (i + 1) s))))
 
   -- no place is left, or no byte
   pub word-ends : (w i end : ℕ) → end ≤ i → wordLeft w i end ≡ w
-  word-ends w i end h = let none : end - i ≡ 0 = omega arith in rw none (digits-none w)
+  word-ends w i end h = let none : end - i ≡ 0 = omega arith in rw none (packed-none w)
 
   pub word-past : (w i end : ℕ) → length s ≤ i → wordLeft w i end ≡ w
-  word-past w i end h = rw (drop-of-length-le s h, take-nil {A = ℕ} (end - i)) (digits-none w)
+  word-past w i end h = rw (drop-of-length-le s h, take-nil {A = ℕ} (end - i)) (packed-none w)
 
 -- ---- keys
 
@@ -119,14 +120,14 @@ module _ (α : Alphabet) (a b : List ℕ) where
   same-word : (from : ℕ) → SameName α a b → wordFrom α from a ≡ wordFrom α from b
   unfolding SameName
   same-word from e =
-      ap (digitsOf 0) (map-part (countsAs α) inWord from a ∙ ap (λ (l : List ℕ). take inWord (drop from l)) e ∙ sym (map-part (countsAs α) inWord from b))
+      ap (packed 0) (map-part (countsAs α) inWord from a ∙ ap (λ (l : List ℕ). take inWord (drop from l)) e ∙ sym (map-part (countsAs α) inWord from b))
 
   module _ (byte-a : Bytes a) (byte-b : Bytes b) where
     -- the same word has the same bytes
     word-same : (from : ℕ) → length a ≡ length b → wordFrom α from a ≡ wordFrom α from b
         → folded α (take inWord (drop from a)) ≡ folded α (take inWord (drop from b))
     word-same from n e =
-        digits-same 0 0 (folded α (take inWord (drop from a))) (folded α (take inWord (drop from b))) size
+        packed-same 0 0 (folded α (take inWord (drop from a))) (folded α (take inWord (drop from b))) size
         (count-bytes α inWord (drop from a) (bytes-drop from a byte-a)) (count-bytes α inWord (drop from b) (bytes-drop from b byte-b)) e .1
       where
         size : length (folded α (take inWord (drop from a))) ≡ length (folded α (take inWord (drop from b)))

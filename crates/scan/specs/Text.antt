@@ -1,15 +1,15 @@
--- The text of a marking file: lines and fields, names, the first word of a line, and the form of a literal (document 01, "The marking file").
+-- The text of a marking file: lines and fields, names, the first word of a line, and the form of a literal (document 01, "The marking file";
+-- document 02, A.2, for capitals in names).
 use mathlib.Core.Path.{_≡_}
 use mathlib.Core.Bool.{Bool, true, false, cond, _&&_, _||_}
 use mathlib.Core.List.{List, [], _∷_, map}
-use Prim.Native.Nat.{ℕ, suc, _+_, _*_, _<_}
+use Prim.Native.Nat.{ℕ, suc, _+_}
 use lib.Dec.{eqb, leb}
-use lib.ListN.{length, take, drop, getD}
+use lib.ListN.{length, drop}
 use Rattle.scan.specs.declared.Class.{Class}
 use Rattle.scan.specs.declared.Class.the-variants.{Letter, Capital, Digit, Underscore, Other}
 use Rattle.scan.specs.declared.Alphabet.{Alphabet}
 use Rattle.scan.specs.declared.Alphabet.the-variants.{SmallOnly, EitherCase}
-use Rattle.scan.specs.declared.Key.{Key}
 use Rattle.scan.specs.declared.Word.{Word}
 use Rattle.scan.specs.declared.Word.the-variants.{Name, Rule, End, Unknown}
 use Rattle.scan.specs.declared.Form.{Form}
@@ -127,33 +127,6 @@ SameName α a b = folded α a ≡ folded α b
 -- `proofs/Names.antt` shows that the test decides it
 unfoldable pub sameName : Alphabet → List ℕ → List ℕ → Bool
 sameName α a b = sameBytes (folded α a) (folded α b)
-
--- ---- keys
-
--- bytes as the digits of a number in base 256, behind the digits of w
-unfoldable pub digitsOf : ℕ → List ℕ → ℕ
-digitsOf w [] = w
-digitsOf w (b ∷ bs) = digitsOf (256 * w + b) bs
-
--- how many bytes a word of a key has
-abbrev pub inWord : ℕ
-inWord = 8
-
--- every element is a byte, so that digits in base 256 tell two such lists apart
-abbrev pub Bytes : List ℕ → Type 0
-Bytes s = (i : ℕ) → getD s i 0 < 256
-
--- the bytes of one word, from place `from` on
-abbrev pub wordFrom : Alphabet → ℕ → List ℕ → ℕ
-wordFrom α from s = digitsOf 0 (folded α (take inWord (drop from s)))
-
--- The key of some bytes: how many there are, and the first 16 of them as they count, in two words. `proofs/Keys.antt` shows that two names are the
--- same exactly where their keys are.
-abbrev pub keyOf : Alphabet → List ℕ → Key
-keyOf α s = record { length = length s; first = wordFrom α 0 s; second = wordFrom α inWord s }
-
-abbrev pub sameKey : Key → Key → Bool
-sameKey a b = eqb (a .length) (b .length) && (eqb (a .first) (b .first) && eqb (a .second) (b .second))
 
 -- ---- the first field
 

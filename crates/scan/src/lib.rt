@@ -2,7 +2,8 @@
 ghost use mathlib.Core.Path.{_≡_};
 ghost use Prim.Native.Nat.{_+_, _≤_};
 ghost use lib.ListN.{length, drop};
-ghost use Rattle.scan.specs.Text.{isText, classOf, isLetter, countsAs, inName, allBytes, split, lenTo, maxLength, isName, sameBytes, inWord, Bytes, wordFrom, keyOf, sameKey, wordOf, lead, tildes, minuses, formOf};
+ghost use Rattle.scan.specs.Text.{isText, classOf, isLetter, countsAs, inName, allBytes, split, lenTo, maxLength, isName, sameBytes, wordOf, lead, tildes, minuses, formOf};
+ghost use Rattle.scan.specs.Keys.{inWord, Bytes, wordFrom, keyOf, sameKey};
 ghost use Rattle.scan.specs.declared.Alphabet.the-variants.{EitherCase};
 
 // The most bytes of a name; `maxLength` in specs/Text.antt is the same number.

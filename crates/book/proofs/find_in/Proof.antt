@@ -4,7 +4,8 @@ use mathlib.Core.Path.{_≡_, sym, ap, _∙_}
 use mathlib.Core.List.{List}
 use Prim.Native.Nat.{ℕ, _≤_, _-_}
 use native.Mathlib.Nat.{sub-zero}
-use Rattle.scan.specs.Text.{Bytes, keyOf, sameKey, sameName}
+use Rattle.scan.specs.Text.{sameName}
+use Rattle.scan.specs.Keys.{Bytes, keyOf, sameKey}
 use Rattle.scan.specs.declared.Alphabet.the-variants.{EitherCase}
 use Rattle.scan.specs.declared.Key.{Key}
 use Rattle.scan.proofs.Keys.{keys-tell}

@@ -1,7 +1,7 @@
 -- `has`: the three numbers are those of key k.
 use borrow.Author.Needs.{needs}
 use mathlib.Core.Path.{ap, _∙_}
-use Rattle.scan.specs.Text.{sameKey}
+use Rattle.scan.specs.Keys.{sameKey}
 use Rattle.scan.specs.declared.Key.{Key}
 use Rattle.keys.proofs.Found.{key-read}
 use Rattle.keys.proofs.has.Statement.{statement}

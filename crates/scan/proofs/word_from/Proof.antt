@@ -4,8 +4,8 @@ use mathlib.Core.Path.{_≡_, sym, ap, _∙_}
 use Prim.Native.Nat.{ℕ, suc, _≤_, _<_, _+_, _-_, _*_, _^_}
 use native.Mathlib.Omega.{arith}
 use lib.ListN.{getD}
-use Rattle.scan.specs.Text.{inWord, wordFrom}
-use Rattle.scan.proofs.Keys.{count-byte, wordLeft, digits-grow, digits-fit, word-begins, word-step, word-ends, word-past}
+use Rattle.scan.specs.Keys.{inWord, wordFrom}
+use Rattle.scan.proofs.Keys.{count-byte, wordLeft, packed-grow, packed-fits, word-begins, word-step, word-ends, word-past}
 use Rattle.scan.proofs.word_from.Statement.{statement}
 use Rattle.scan.proofs.word_from.Tie as tie
 
@@ -35,7 +35,7 @@ mul-w : tie.Need-mul-w Inv-loop μ-loop
 mul-w c =
     let at = c .before .before in
     let inv = at .loop .inv in
-    omega (arith, digits-fit (at .loop .w) (at .loop .k - at .before .before .args .from) (inv .2) (omega (arith, inv .0, c .before .loop-test .taken)))
+    omega (arith, packed-fits (at .loop .w) (at .loop .k - at .before .before .args .from) (inv .2) (omega (arith, inv .0, c .before .loop-test .taken)))
 
 shared-slice-read-counts-as : tie.Need-shared-slice-read-counts-as Inv-loop μ-loop
 shared-slice-read-counts-as c = search needs
@@ -53,7 +53,7 @@ add-w c =
     let a = at .before .before .args in
     let inv = at .loop .inv in
     let byte = count-byte (a .alphabet) (getD (a .s .now) (at .loop .k) 0) (omega (arith, e .shared-slice-known2 .given (at .loop .k))) in
-    omega (arith, byte, c .wide .ensures, c .before .counts-as .ensures, digits-fit (at .loop .w) (at .loop .k - a .from) (inv .2) (omega (arith, inv .0, e .before .before .loop-test .taken)))
+    omega (arith, byte, c .wide .ensures, c .before .counts-as .ensures, packed-fits (at .loop .w) (at .loop .k - a .from) (inv .2) (omega (arith, inv .0, e .before .before .loop-test .taken)))
 
 add-k : tie.Need-add-k Inv-loop μ-loop
 add-k c = search needs
@@ -73,7 +73,7 @@ loop-again c =
     let next : at .loop .k + 1 - a .from ≡ suc (at .loop .k - a .from) = omega (arith, inv .0) in (
       omega (arith, inv .0),
       omega (arith, inside),
-      rw next (digits-grow (at .loop .w) (c .wide .result) (at .loop .k - a .from) (inv .2) (omega (arith, seen, byte))),
+      rw next (packed-grow (at .loop .w) (c .wide .result) (at .loop .k - a .from) (inv .2) (omega (arith, seen, byte))),
       ap (λ (b : ℕ). wordLeft (a .alphabet) (a .s .now) (256 * at .loop .w + b) (at .loop .k + 1) (a .from + inWord)) seen
           ∙ sym (word-step (a .alphabet) (a .s .now) (at .loop .w) (at .loop .k) (a .from + inWord) inside (e .before .if1 .left)) ∙ inv .3,
     )
