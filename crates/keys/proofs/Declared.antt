@@ -7,6 +7,7 @@ use native.Mathlib.Decide.{decLt}
 use native.Mathlib.Omega.{arith}
 use lib.ListN.{length, getD, set, length-append, length-set, List·getD-append}
 use lib.Seq.{getD-set-same, getD-set-other, getD-append-seam}
+use borrow.Author.Tests.{lt-ltb}
 use Rattle.scan.specs.Text.{maxLength}
 use Rattle.scan.specs.declared.Alphabet.the-variants.{EitherCase}
 use Rattle.scan.specs.declared.Key.{Key}
@@ -14,7 +15,7 @@ use Rattle.book.specs.Limits.{maxNames}
 use Rattle.book.specs.Book.{find}
 use Rattle.book.specs.declared.Found.the-variants.{Nothing, At}
 use Rattle.book.proofs.Lookup.{find-kept, find-joined}
-use Rattle.keys.specs.Keyed.{keyAt, withKey, KeyFor, Keyed}
+use Rattle.keys.specs.Keyed.{keyAt, withKey, putKey, KeyFor, Keyed}
 
 module _ (keys : List ℕ) (k : ℕ) (key : Key) where
   abbrev one : List ℕ
@@ -72,8 +73,8 @@ module _ {names : List (List ℕ)} {keys : List ℕ} {key : Key} {n : List ℕ} 
           let seam : getD (names ++ (n ∷ [])) k [] ≡ n = rw last (getD-append-seam names n [] []) in
           rw (e, seam) here
 
-  pub keyed-more : Keyed (names ++ (n ∷ [])) (withKey keys k key)
-  keyed-more =
+  joined : Keyed (names ++ (n ∷ [])) (withKey keys k key)
+  joined =
       record {
         room = key-room keys k key ∙ t .room;
         few = omega (arith, length-append names (n ∷ []));
@@ -85,3 +86,6 @@ module _ {names : List (List ℕ)} {keys : List ℕ} {key : Key} {n : List ℕ} 
             each (λ j m. find EitherCase (names ++ (n ∷ [])) m ≡ At j) (λ j l. find-kept EitherCase (getD names j []) 0 j names (n ∷ []) (t .own-place j l))
             (find-joined EitherCase n 0 names new ∙ ap At (zero-add (length names) ∙ sym last));
       }
+
+  pub keyed-more : Keyed (names ++ (n ∷ [])) (putKey keys k key)
+  keyed-more = rw (lt-ltb k maxNames room) joined

@@ -1,7 +1,10 @@
 -- The names of a file while it is read, held as a table of their keys.
 use mathlib.Core.Path.{_≡_}
+use mathlib.Core.Bool.{cond}
 use mathlib.Core.List.{List, []}
-use Prim.Native.Nat.{ℕ, _+_, _*_, _≤_, _<_}
+use Prim.Native.Nat.{ℕ, _+_, _*_, _%_, _≤_, _<_}
+use lib.Bits.{bitXor}
+use lib.Dec.{ltb}
 use lib.ListN.{length, getD, set}
 use Rattle.scan.specs.Text.{maxLength}
 use Rattle.scan.specs.Keys.{Bytes, keyOf}
@@ -19,6 +22,17 @@ keyAt keys k = record { length = getD keys (3 * k) 0; first = getD keys (3 * k +
 -- the table with a key in place k
 abbrev pub withKey : List ℕ → ℕ → Key → List ℕ
 withKey keys k key = set (set (set keys (3 * k) (key .length)) (3 * k + 1) (key .first)) (3 * k + 2) (key .second)
+
+-- name k is declared, where the table has room for it
+abbrev pub putKey : List ℕ → ℕ → Key → List ℕ
+putKey keys k key = cond (ltb k maxNames) (withKey keys k key) keys
+
+-- where the hint for a key stands: which place it is matters to speed alone
+abbrev pub hintPlace : Key → ℕ
+hintPlace key = bitXor (key .first) (key .second) % 1021
+
+abbrev pub putHint : List ℕ → ℕ → Key → List ℕ
+putHint hints k key = cond (ltb k maxNames) (set hints (hintPlace key) k) hints
 
 -- the key is that of the name
 pub record KeyFor (key : Key) (name : List ℕ) : Type 0 where

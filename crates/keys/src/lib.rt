@@ -1,16 +1,11 @@
 // The names of a file while it is read: a key for each, and for a key the name to look at first. A name is looked up in a few steps, wherever it
 // was declared.
 ghost use mathlib.Core.Path.{_≡_};
-ghost use mathlib.Core.List.{List, [], _∷_, _++_};
-ghost use Prim.Native.Nat.{ℕ, _≤_, _<_};
-ghost use lib.ListN.{length, getD};
-ghost use Rattle.scan.specs.Text.{maxLength};
+ghost use Prim.Native.Nat.{_≤_, _<_};
+ghost use lib.ListN.{getD};
 ghost use Rattle.scan.specs.Keys.{sameKey};
-ghost use Rattle.scan.specs.declared.Alphabet.the-variants.{EitherCase};
 ghost use Rattle.book.specs.Limits.{maxNames};
-ghost use Rattle.book.specs.Book.{find};
-ghost use Rattle.book.specs.declared.Found.the-variants.{Nothing};
-ghost use Rattle.keys.specs.Keyed.{keyAt, withKey, KeyFor, Keyed, LookedUp};
+ghost use Rattle.keys.specs.Keyed.{keyAt, withKey, putKey, hintPlace, putHint, LookedUp};
 use book::Found;
 use scan::Key;
 
@@ -65,7 +60,7 @@ fn first_with(keys: &[u64], count: usize, key: Key) -> Found
 
 // Where the hint for a key stands. The prime spreads the names; which place it is matters to speed alone.
 fn hint_place(key: Key) -> usize
-    ensures { λ r. ⌜ r ≤ 1020 ⌝ }
+    ensures { λ r. ⌜ r ≡ hintPlace key ⌝ }
 {
     ((key.first ^ key.second) % 1021) as usize
 }
@@ -104,8 +99,7 @@ fn put_key(keys: &mut [u64], k: usize, key: Key)
 
 // Name k is declared: it has the key, and is the name to look at first for it.
 pub fn put(keys: &mut [u64], hints: &mut [u8], k: usize, key: Key)
-    ensures { λ r. ⌜ ((names : List (List ℕ)) (n : List ℕ) → Keyed names (now (keys .entry)) → k ≡ length names → k < maxNames → KeyFor key n
-        → length n ≤ maxLength → find EitherCase names n ≡ Nothing → Keyed (names ++ (n ∷ [])) (now (keys .exit))) ⌝ }
+    ensures { λ r. ⌜ (now (keys .exit) ≡ putKey (now (keys .entry)) k key) × (now (hints .exit) ≡ putHint (now (hints .entry)) k key) ⌝ }
 {
     if k < book::MAX_NAMES {
         put_key(keys, k, key);

@@ -196,6 +196,7 @@ pub struct Key {
     pub second: u64,
 }
 
+// The contract also says that the elements are bytes: without it two lists could have the same key.
 pub fn key_of(s: &[u8], alphabet: Alphabet) -> Key
     ensures { λ r. ⌜ (r ≡ keyOf alphabet (now (s .entry))) × Bytes (now (s .entry)) ⌝ }
 {

@@ -1,10 +1,10 @@
--- `put`: a name that is not found joins the others; beyond the table there is none.
+-- `put`: the key and the hint are stored where the table has room for the name; else neither.
 use borrow.Author.Needs.{needs}
-use mathlib.Core.Path.{subst, sym}
-use mathlib.Core.List.{_∷_, [], _++_}
-use native.Mathlib.Omega.{arith}
-use Rattle.keys.specs.Keyed.{Keyed}
-use Rattle.keys.proofs.Declared.{keyed-more}
+use mathlib.Core.Path.{refl, ap, _∙_}
+use Prim.Native.Nat.{ℕ}
+use lib.ListN.{set}
+use borrow.Author.Tests.{lt-ltb, le-ltb}
+use Rattle.book.specs.Limits.{maxNames}
 use Rattle.keys.proofs.put.Statement.{statement}
 use Rattle.keys.proofs.put.Tie as tie
 
@@ -27,12 +27,15 @@ same-length-2 : tie.Need-same-length-2
 same-length-2 c = search needs
 
 returns : tie.Need-returns
-returns c names n t last room p brief new =
+returns c =
+    let hint = c .before .before in
     let stored = c .before .before .before .before .before .before .before in
-    subst (Keyed (names ++ (n ∷ []))) (sym (stored .put-key .ensures)) (keyed-more t p _ last room brief new)
+    let a = stored .before .before .before .before .before .args in
+    rw (lt-ltb (a .k) maxNames (stored .before .before .if1 .taken))
+    (stored .put-key .ensures, hint .put8 .ensures ∙ ap (λ (p : ℕ). set (a .hints .now) p (a .k)) (hint .before .hint-place .ensures))
 
 returns-2 : tie.Need-returns-2
-returns-2 c names n t last room p brief new = absurd (omega (arith, room, c .if1 .left))
+returns-2 c = let a = c .before .before .before .args in rw (le-ltb (a .k) maxNames (c .if1 .left)) (refl, refl)
 
 pub put-spec : {M : Type 1} → statement M
 put-spec =

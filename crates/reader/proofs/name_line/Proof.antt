@@ -1,6 +1,6 @@
 -- `name_line`: each test that fails settles the fault, in the definition's order; a name that passes them joins the others, its key behind their keys.
 use borrow.Author.Needs.{needs}
-use mathlib.Core.Path.{_≡_, sym, ap, _∙_}
+use mathlib.Core.Path.{_≡_, sym, ap, _∙_, subst}
 use mathlib.Core.Bool.{true}
 use mathlib.Core.List.{List}
 use Prim.Native.Nat.{ℕ, _<_}
@@ -12,7 +12,8 @@ use Rattle.scan.specs.declared.Word.the-variants.{Name}
 use Rattle.scan.proofs.Names.{name-fits}
 use Rattle.book.specs.Limits.{maxNames}
 use Rattle.book.specs.Book.{find}
-use Rattle.keys.specs.Keyed.{KeyFor}
+use Rattle.keys.specs.Keyed.{KeyFor, Keyed}
+use Rattle.keys.proofs.Declared.{keyed-more}
 use Rattle.reader.specs.File.{Content, isFound}
 use Rattle.reader.specs.Steps.{Holds, wordStep}
 use Rattle.reader.proofs.Numbers.{name-malformed, name-declared, name-beyond, name-fine}
@@ -158,7 +159,7 @@ returns-4 c =
     record {
       answer = (
         name-fine (h .counted) (start .pre .1) _ is-named (ap isFound new) room,
-        name-held h (name-of (at-test look .before)) room (at-put text .put .ensures (d .names) _ (h .keyed) (names-held h) room (key-for (at-key look)) short new),
+        name-held h (name-of (at-test look .before)) room (subst (Keyed _) (sym (at-put text .put .ensures .0)) (keyed-more (h .keyed) (key-for (at-key look)) _ (names-held h) room short new)),
       );
       stored = λ z. name-stored h (name-of (at-test look .before)) room short (text .put-all .ensures) (c .before .before .put8 .ensures);
     }
