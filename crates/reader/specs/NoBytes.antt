@@ -1,5 +1,5 @@
--- The outcome of a file as document 01 has it by itself, where a file of no bytes is refused by 3. Document 02, A.4, accepts that file, and
--- `proofs/NoBytes.antt` shows that every other has the outcome that it has here.
+-- The outcome of a file as document 01 has it, where a file of no bytes is refused by 3; by itself it has the alphabet `SmallOnly`. Document 02, A.4, accepts
+-- that file, and `proofs/NoBytes.antt` shows that with either alphabet every other has the outcome that it has here.
 use mathlib.Core.Bool.{not, cond, _||_}
 use mathlib.Core.List.{List}
 use Prim.Native.Nat.{ℕ, _-_}

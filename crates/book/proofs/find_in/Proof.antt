@@ -5,9 +5,7 @@ use mathlib.Core.List.{List}
 use Prim.Native.Nat.{ℕ, _≤_, _-_}
 use native.Mathlib.Nat.{sub-zero}
 use Rattle.scan.specs.Text.{sameName}
-use Rattle.scan.specs.Keys.{Bytes, keyOf, sameKey}
 use Rattle.scan.specs.declared.Alphabet.the-variants.{EitherCase}
-use Rattle.scan.specs.declared.Key.{Key}
 use Rattle.scan.proofs.Keys.{keys-tell}
 use Rattle.book.specs.Book.{rows, nameAt, namesIn, findFrom, find}
 use Rattle.book.proofs.Lookup.{find-hit, find-miss, find-end}
@@ -21,11 +19,33 @@ Inv-loop text lengths count name key n k₀ k = (k ≤ n) × (findFrom EitherCas
 abbrev μ-loop : tie.MeasureT-loop
 μ-loop text lengths count name key n k₀ k = n - k
 
--- what the keys tell of name k and the one looked for
-told : (text lengths : List ℕ) (k : ℕ) (m name : List ℕ) (x y : Key) → m ≡ nameAt text lengths k → (x ≡ keyOf EitherCase m) × Bytes m
-    → (y ≡ keyOf EitherCase name) × Bytes name → sameKey x y ≡ sameName EitherCase (nameAt text lengths k) name
-told text lengths k m name x y e p q =
-    keys-tell EitherCase m name x y p q (λ l. rw e (name-most text lengths k)) ∙ ap (λ (n : List ℕ). sameName EitherCase n name) e
+-- ---- the places: the loop's head, and name k compared
+
+abbrev at-start : tie.At-loop Inv-loop μ-loop → tie.Start Inv-loop μ-loop
+at-start c = c .before .before .before .before .before .before
+
+abbrev at-loop : tie.After-same-key Inv-loop μ-loop → tie.At-loop Inv-loop μ-loop
+at-loop c = c .before .before .before .before
+
+abbrev names-at : tie.At-loop Inv-loop μ-loop → ℕ → List ℕ
+names-at c = nameAt (at-start c .args .text .now) (at-start c .args .lengths .now)
+
+abbrev name-of : tie.At-loop Inv-loop μ-loop → List ℕ
+name-of c = at-start c .args .name .now
+
+-- the keys tell whether name k is the one looked for
+told : (c : tie.After-same-key Inv-loop μ-loop) → sameName EitherCase (names-at (at-loop c) (at-loop c .loop .k)) (name-of (at-loop c)) ≡ c .same-key .result
+told c =
+    let at = at-loop c in
+    let m = c .before .before .name-at in
+    let own = c .before .key-of2 in
+    let key = at .before .before .key-of in
+    let a = at-start at .args in
+    sym (c .same-key .ensures
+    ∙ keys-tell EitherCase (m .result .now) (name-of at) (own .result) (key .result) (own .ensures) (key .ensures) (λ l. rw (m .ensures) (name-most (a .text .now) (a .lengths .now) (at .loop .k)))
+    ∙ ap (λ (n : List ℕ). sameName EitherCase n (name-of at)) (m .ensures))
+
+-- ---- the needs
 
 key-of-requires : tie.Need-key-of-requires Inv-loop μ-loop
 key-of-requires c κs = search needs
@@ -47,15 +67,10 @@ same-key-requires c κs = search needs
 
 returns : tie.Need-returns Inv-loop μ-loop
 returns c =
-    let at = c .before .before .before .before .before in
-    let a = at .before .before .before .before .before .before .args in
-    let f = nameAt (a .text .now) (a .lengths .now) in
-    let m = c .before .before .before .name-at in
-    let two = c .before .before .key-of2 in
-    let k = at .before .before .key-of in
-    let hit = sym (told (a .text .now) (a .lengths .now) (at .loop .k) (m .result .now) (a .name .now) (two .result) (k .result) (m .ensures) (two .ensures) (k .ensures)) ∙ sym (c .before .same-key .ensures) ∙ c .if1 .taken in
-    sym (find-hit EitherCase f (a .name .now) (at .loop .k) (at .before .least .result) (c .before .before .before .before .loop-test .taken) hit) ∙ at .loop .inv .1
-    ∙ ap (λ (n : ℕ). find EitherCase (namesIn (a .text .now) (a .lengths .now) n) (a .name .now)) (at .before .least .ensures)
+    let at = at-loop (c .before) in
+    let a = at-start at .args in
+    sym (find-hit EitherCase (names-at at) (name-of at) (at .loop .k) (at .before .least .result) (c .before .before .before .before .loop-test .taken) (told (c .before) ∙ c .if1 .taken))
+    ∙ at .loop .inv .1 ∙ ap (λ (n : ℕ). find EitherCase (namesIn (a .text .now) (a .lengths .now) n) (a .name .now)) (at .before .least .ensures)
 
 add-k : tie.Need-add-k Inv-loop μ-loop
 add-k c = search needs
@@ -65,20 +80,16 @@ loop-less c = search needs
 
 loop-again : tie.Need-loop-again Inv-loop μ-loop
 loop-again c =
-    let at = c .before .before .before .before .before in
-    let a = at .before .before .before .before .before .before .args in
-    let f = nameAt (a .text .now) (a .lengths .now) in
-    let m = c .before .before .before .name-at in
-    let two = c .before .before .key-of2 in
-    let k = at .before .before .key-of in
-    let miss = sym (told (a .text .now) (a .lengths .now) (at .loop .k) (m .result .now) (a .name .now) (two .result) (k .result) (m .ensures) (two .ensures) (k .ensures)) ∙ sym (c .before .same-key .ensures) ∙ c .if1 .left in
-    (search needs, sym (find-miss EitherCase f (a .name .now) (at .loop .k) (at .before .least .result) (c .before .before .before .before .loop-test .taken) miss) ∙ at .loop .inv .1)
+    let at = at-loop (c .before) in (
+      search needs,
+      sym (find-miss EitherCase (names-at at) (name-of at) (at .loop .k) (at .before .least .result) (c .before .before .before .before .loop-test .taken) (told (c .before) ∙ c .if1 .left)) ∙ at .loop .inv .1,
+    )
 
 returns-2 : tie.Need-returns-2 Inv-loop μ-loop
 returns-2 c =
     let at = c .before in
-    let a = at .before .before .before .before .before .before .args in
-    sym (find-end EitherCase (nameAt (a .text .now) (a .lengths .now)) (a .name .now) (at .loop .k) (at .before .least .result) (c .loop-test .left)) ∙ at .loop .inv .1
+    let a = at-start at .args in
+    sym (find-end EitherCase (names-at at) (name-of at) (at .loop .k) (at .before .least .result) (c .loop-test .left)) ∙ at .loop .inv .1
     ∙ ap (λ (n : ℕ). find EitherCase (namesIn (a .text .now) (a .lengths .now) n) (a .name .now)) (at .before .least .ensures)
 
 pub find-in-spec : {M : Type 1} → statement M
