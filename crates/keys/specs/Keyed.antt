@@ -27,9 +27,13 @@ withKey keys k key = set (set (set keys (3 * k) (key .length)) (3 * k + 1) (key 
 abbrev pub putKey : List ℕ → ℕ → Key → List ℕ
 putKey keys k key = cond (ltb k maxNames) (withKey keys k key) keys
 
+-- how many places the hints have; `src/lib.rt` has the same number
+abbrev pub maxHints : ℕ
+maxHints = 1021
+
 -- where the hint for a key stands: which place it is matters to speed alone
 abbrev pub hintPlace : Key → ℕ
-hintPlace key = bitXor (key .first) (key .second) % 1021
+hintPlace key = bitXor (key .first) (key .second) % maxHints
 
 abbrev pub putHint : List ℕ → ℕ → Key → List ℕ
 putHint hints k key = cond (ltb k maxNames) (set hints (hintPlace key) k) hints

@@ -12,8 +12,8 @@ use scan::Key;
 // A key takes three numbers: length, first and second word.
 pub const MAX_KEYS: usize = 3 * book::MAX_NAMES;
 
-// The hints: more than there are names, so that few names share one.
-pub const MAX_HINTS: usize = 1024;
+// The places of the hints: more than there are names, and a prime, so that few names share one. `maxHints` in specs/Keyed.antt is the same number.
+pub const MAX_HINTS: usize = 1021;
 
 // The number at place i, or 0 past the end.
 fn number_at(keys: &[u64], i: usize) -> u64
@@ -58,11 +58,11 @@ fn first_with(keys: &[u64], count: usize, key: Key) -> Found
 
 // ---- hints: whatever they say, the names that they lead to are compared by their keys
 
-// Where the hint for a key stands. The prime spreads the names; which place it is matters to speed alone.
+// Where the hint for a key stands. Which place it is matters to speed alone.
 fn hint_place(key: Key) -> usize
     ensures { λ r. ⌜ r ≡ hintPlace key ⌝ }
 {
-    ((key.first ^ key.second) % 1021) as usize
+    ((key.first ^ key.second) % MAX_HINTS as u64) as usize
 }
 
 // The name to look at first.
