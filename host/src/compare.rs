@@ -59,6 +59,15 @@ pub fn agree(calls: &[Call], other: &mut dyn Calls) -> Result<Asked, Vec<Call>> 
     agree_at_the_end(&second, other).map_err(|call| [calls, &[call]].concat())
 }
 
+/// Makes the calls of a list on another desk and on the second implementation's, which is answered.
+pub(crate) fn second_after(calls: &[Call], other: &mut dyn Calls) -> Desk {
+    let mut second = Desk::fresh();
+    for call in calls {
+        both_answers(call, &mut second, other);
+    }
+    second
+}
+
 /// The place of the first call of a list whose answers differ, with the answers, or nothing.
 fn first_difference(
     calls: &[Call],
@@ -85,7 +94,10 @@ pub fn explain<D: Calls>(calls: Vec<Call>, fresh: impl Fn() -> D) -> String {
 }
 
 /// The same, where `differs` finds the place of a call and says what is different there.
-fn explain_by(calls: Vec<Call>, differs: impl Fn(&[Call]) -> Option<(usize, String)>) -> String {
+pub(crate) fn explain_by(
+    calls: Vec<Call>,
+    differs: impl Fn(&[Call]) -> Option<(usize, String)>,
+) -> String {
     let short = shortest_calls(calls, &mut |calls| differs(calls).is_some());
     let (place, difference) = differs(&short).expect("the short list shows it too");
     let calls: String = short.iter().map(|call| format!("  {call:?}\n")).collect();

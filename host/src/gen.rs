@@ -85,6 +85,13 @@ pub const MIDDLE: Size = Size {
     body: 4,
 };
 
+/// Small enough that every set of literals can be tried.
+pub const TRIED: Size = Size {
+    names: 6,
+    rules: 12,
+    body: 3,
+};
+
 /// The limits of document 01.
 pub const FULL: Size = Size {
     names: MOST_NAMES,
@@ -119,6 +126,24 @@ pub fn full_book(random: &mut Random) -> Book {
         }
     }
     book_of(random, MOST_NAMES, &lengths)
+}
+
+/// A book with pairs of literals that are each other's exception, and some rules more, each with a body.
+/// Many such books have several answer sets.
+pub fn book_with_circles(random: &mut Random, size: Size) -> Book {
+    let names = random.between(2, size.names);
+    let lengths: Vec<usize> = (0..random.below(size.rules / 2))
+        .map(|_| random.between(1, size.body))
+        .collect();
+    let mut book = book_of(random, names, &lengths);
+    for _ in 0..random.between(1, size.rules / 4) {
+        let (one, other) = (random.below(2 * names), random.below(2 * names));
+        for (head, exception) in [(one, other), (other, one)] {
+            let body = vec![default(exception)];
+            book.rules.push(Rule { head, body });
+        }
+    }
+    book
 }
 
 /// A book with so many names, and a rule for each length of a body.
@@ -706,6 +731,15 @@ pub fn calls(random: &mut Random, size: Size) -> Vec<Call> {
     for _ in 0..random.between(1, 24) {
         calls.push(call(random, size));
     }
+    calls
+}
+
+/// A load of a book with circles, and at most two facts put in.
+pub fn calls_on_circles(random: &mut Random, size: Size) -> Vec<Call> {
+    let book = book_with_circles(random, size);
+    let mut calls = vec![Call::Load(written(random, &book))];
+    let facts = random.below(3);
+    calls.extend((0..facts).map(|_| Call::PutIn(random.below(book.literals()))));
     calls
 }
 

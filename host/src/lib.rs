@@ -5,8 +5,10 @@
 //! - [`gen`]: books, files and lists of calls from a seed.
 //! - [`shrink`] and [`compare`]: run a list of calls on two desks, and find a short list that
 //!   shows a difference.
+//! - [`accord`]: holds a desk against the answer sets of what a list of calls leaves.
 //! - `engine`: the proved engine behind a safe type (feature `engine`).
 
+pub mod accord;
 pub mod answer;
 pub mod compare;
 #[cfg(feature = "engine")]

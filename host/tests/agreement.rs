@@ -1,11 +1,12 @@
-//! On random small books: the searches agree with M and N, M and N with the published notions, capitals
-//! make no other names, and the comparison of two desks finds wrong ones.
+//! On random small books: the searches agree with M and N, M and N with the published notions and with
+//! the answer sets, capitals make no other names, and the comparison of two desks finds wrong ones.
 
+use mezhkura::accord::{accords, Accord};
 use mezhkura::answer::{BookSize, Fault, Model, Question, Refused, Tree, Verdict};
 use mezhkura::compare::{agree, answer_by_model, explain, models_stand, questions};
 use mezhkura::compare::{Asked, Calls, Stood, MOST_VISITS};
-use mezhkura::gen::{self, Random, Size, MIDDLE, SMALL};
-use mezhkura::second::{contradictory_name, gamma, program_output, read, search, size};
+use mezhkura::gen::{self, Random, Size, MIDDLE, SMALL, TRIED};
+use mezhkura::second::{contradictory_name, every_set, gamma, program_output, read, search, size};
 use mezhkura::second::{Book, Desk, Program, Walk};
 use std::collections::BTreeSet;
 
@@ -103,11 +104,6 @@ fn short_searches_of_large_books_agree_with_m_and_n() {
     assert!(0 < tally.not_ended && tally.not_ended * 4 < tally.asked * 3);
 }
 
-/// Every set of literals below a bound, as flags.
-fn every_set(literals: usize) -> impl Iterator<Item = Vec<bool>> {
-    (0..1usize << literals).map(move |bits| (0..literals).map(|l| bits >> l & 1 == 1).collect())
-}
-
 /// Γ(S) by its definition: the intersection of all sets closed under the rules that S keeps.
 fn gamma_by_definition(program: &Program, s: &[bool]) -> Vec<bool> {
     let closed = |set: &[bool]| {
@@ -154,12 +150,10 @@ fn model_is_the_published_one() {
 fn check_model(program: &Program, file: &str) {
     let seminormal = program.seminormal();
     let halves = program.halves();
-    assert_eq!(
-        gamma(program, &halves.nonfalse),
-        gamma_by_definition(program, &halves.nonfalse),
-        "{}",
-        file
-    );
+    for s in every_set(program.literals) {
+        let by_definition = gamma_by_definition(program, &s);
+        assert_eq!(gamma(program, &s), by_definition, "{s:?} of {file}");
+    }
     assert_eq!(
         halves.nonfalse,
         gamma_by_definition(&seminormal, &halves.truths),
@@ -316,6 +310,9 @@ enum How {
     WritesPastTheListing,
     ModelOfTheBookAlone,
     VerdictOfAContradiction,
+    UndefinedIsTrue,
+    UndefinedIsFalse,
+    UndefinedIsAContradiction,
     LoadKeepsFacts,
     RefusedPutInTakesOut,
     TakenOutStaysInTheModel,
@@ -369,11 +366,13 @@ impl Calls for Wrong {
     }
 
     fn verdict(&self, literal: usize) -> Result<Verdict, Refused> {
-        match self.desk.verdict(literal) {
-            Err(Refused::Contradictory) if self.how == How::VerdictOfAContradiction => {
-                Ok(Verdict::True)
-            }
-            answer => answer,
+        let answer = self.desk.verdict(literal);
+        match (self.how, answer) {
+            (How::VerdictOfAContradiction, Err(Refused::Contradictory)) => Ok(Verdict::True),
+            (How::UndefinedIsTrue, Ok(Verdict::Undefined)) => Ok(Verdict::True),
+            (How::UndefinedIsFalse, Ok(Verdict::Undefined)) => Ok(Verdict::False),
+            (How::UndefinedIsAContradiction, Ok(Verdict::Undefined)) => Err(Refused::Contradictory),
+            _ => answer,
         }
     }
 
@@ -539,6 +538,35 @@ fn models_that_come_from_more_than_book_and_facts_are_found() {
 }
 
 /// The plain tree of the layered book doubles with each level.
+/// The answer sets of what so many lists of calls left, with which a desk is in accord, or a list that
+/// shows that it isn't.
+fn random_accord(how: How, lists: usize) -> Result<Accord, String> {
+    let mut random = Random::new(seed() + 6);
+    let mut accord = Accord::default();
+    for _ in 0..lists {
+        accord += accords(&gen::calls(&mut random, SMALL), || Wrong::fresh(how))?;
+        let circles = gen::calls_on_circles(&mut random, TRIED);
+        accord += accords(&circles, || Wrong::fresh(how))?;
+    }
+    println!("{accord:?}");
+    Ok(accord)
+}
+
+#[test]
+fn desks_that_are_not_in_accord_with_answer_sets_are_found() {
+    let right = random_accord(How::NotAtAll, 500).unwrap_or_else(|text| panic!("{text}"));
+    assert!(right.one > 50 && right.several > 50, "{right:?}");
+    for how in [
+        How::UndefinedIsTrue,
+        How::UndefinedIsFalse,
+        How::UndefinedIsAContradiction,
+        How::PutInStoresNothing,
+        How::ModelOfTheBookAlone,
+    ] {
+        assert_found(how, random_accord(how, 500));
+    }
+}
+
 #[test]
 fn the_layered_book_has_a_wide_tree() {
     let program = Program::new(&gen::layered_book(9), &BTreeSet::new());

@@ -1,10 +1,12 @@
 //! The engine compared with the second implementation (feature `engine`). A list of calls ends with all
-//! questions of the book that it leaves, or else the model is looked at after each of its calls.
+//! questions of the book that it leaves, or the model is looked at after each of its calls, or what it
+//! leaves is held against the answer sets.
 #![cfg(feature = "engine")]
 
+use mezhkura::accord::{accords, Accord};
 use mezhkura::compare::{agree, explain, models_stand, questions, Asked, Stood};
 use mezhkura::engine::Desk;
-use mezhkura::gen::{self, Call, Random, FULL, MIDDLE, SMALL};
+use mezhkura::gen::{self, Call, Random, FULL, MIDDLE, SMALL, TRIED};
 use mezhkura::second::read;
 use std::fs;
 use std::path::Path;
@@ -103,6 +105,24 @@ fn models_stand_whatever_came_before() {
     }
     println!("{stood:?}");
     assert!(stood.refused > 10_000 && stood.calls > stood.refused + 10_000);
+}
+
+/// M lies inside every answer set and that inside N; true is in all of them, false in none.
+#[test]
+fn answer_sets_are_in_accord() {
+    let mut random = Random::new(seed() + 7);
+    let mut accord = Accord::default();
+    for _ in 0..3_000 {
+        for calls in [
+            gen::calls(&mut random, SMALL),
+            gen::calls_on_circles(&mut random, TRIED),
+        ] {
+            accord += accords(&calls, Desk::fresh).unwrap_or_else(|text| panic!("{text}"));
+        }
+    }
+    println!("{accord:?}");
+    assert!(accord.one > 2_000 && accord.several > 500 && accord.none > 500);
+    assert!(accord.settled > 10_000 && accord.undefined > 2_000);
 }
 
 #[test]

@@ -1,7 +1,8 @@
-//! The example books have the listings that stand beside them, and the books of the guide the listings and
-//! figures below them.
+//! The example books have the listings that stand beside them, and the books of the guide the listings,
+//! figures and answer sets below them.
 
-use mezhkura::second::{program_output, size, Desk};
+use mezhkura::second::{answer_sets, program_output, read, size, Book, Desk, Program};
+use std::collections::BTreeSet;
 use std::fs;
 use std::path::{Path, PathBuf};
 
@@ -83,11 +84,30 @@ fn sized_file(kind: &str, book: &str) -> Option<Vec<u8>> {
     Some(fs::read(repository().join(example)).expect("a book of examples"))
 }
 
+/// The answer sets of a book without facts, a line for each, or `none`.
+fn answer_sets_of(book: &str) -> String {
+    let book = read(book.as_bytes()).expect("the book loads");
+    let sets = answer_sets(&Program::new(&book, &BTreeSet::new()));
+    if sets.is_empty() {
+        return "none\n".to_string();
+    }
+    sets.iter().map(|set| set_line(&book, set)).collect()
+}
+
+fn set_line(book: &Book, set: &BTreeSet<usize>) -> String {
+    let spelt = |&literal: &usize| {
+        let mark = if literal % 2 == 1 { "-" } else { "" };
+        format!("{mark}{}", book.names[literal / 2])
+    };
+    let members: Vec<String> = set.iter().map(spelt).collect();
+    format!("{{{}}}\n", members.join(", "))
+}
+
 #[test]
-fn books_of_the_guide_have_their_listings_and_sizes() {
+fn books_of_the_guide_have_what_stands_below_them() {
     let page = fs::read_to_string(repository().join("docs/BOOKS.md")).expect("the guide");
     let (mut book, mut facts) = (String::new(), String::new());
-    let (mut listings, mut sizes) = (0, 0);
+    let (mut listings, mut sizes, mut answers) = (0, 0, 0);
     for block in blocks(&page) {
         match block.kind.as_str() {
             "book" => book = block.text,
@@ -105,6 +125,11 @@ fn books_of_the_guide_have_their_listings_and_sizes() {
                 facts.clear();
                 listings += 1;
             }
+            "answer-sets" => {
+                let printed = answer_sets_of(&book);
+                assert_eq!(printed, block.text, "BOOKS.md, line {}", block.line);
+                answers += 1;
+            }
             kind => {
                 let file = sized_file(kind, &book).unwrap_or_else(|| {
                     panic!("BOOKS.md, line {}: a block `{kind}`", block.line);
@@ -118,6 +143,7 @@ fn books_of_the_guide_have_their_listings_and_sizes() {
     }
     assert!(listings >= 20, "{listings} listings");
     assert!(sizes >= 3, "{sizes} sizes");
+    assert!(answers >= 3, "{answers} answers");
 }
 
 /// The guide has an example for each number that a short file can meet.

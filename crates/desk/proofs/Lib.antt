@@ -8,6 +8,7 @@ pub mod Demand2
 pub mod Demand3
 pub mod Answers
 pub mod Exists
+pub mod AnswerSets
 pub mod Cases
 pub mod Sizing
 pub mod Parted

@@ -1,5 +1,5 @@
 -- The calls of a desk, each as one record: what a list of them leaves by its arguments alone (document 01, "What a list of calls leaves"), and what a run
--- of it is. Then what the three demands say of a reply.
+-- of it is. Then what the three demands, and request A.14 of document 02, say of a reply.
 use mathlib.Core.Path.{_≡_}
 use mathlib.Core.Logic.{_↔_}
 use mathlib.Core.Bool.{Bool, true, false}
@@ -10,7 +10,9 @@ use Rattle.wfsx.specs.Sets.{Set, _∈_, _∉_, _⊆_, _∖_}
 use Rattle.wfsx.specs.Program.{Program}
 use Rattle.wfsx.specs.Model.{M, N, PartialStable, valueIn}
 use Rattle.wfsx.specs.Model as wfsx
+use Rattle.wfsx.specs.AnswerSets.{AnswerSet, Accords}
 use Rattle.wfsx.specs.Trees.{Tree, T, TU}
+use Rattle.litset.specs.Words.{setOf}
 use Rattle.search.specs.Questions.{questionOf}
 use Rattle.scan.specs.declared.Alphabet.the-variants.{EitherCase}
 use Rattle.reader.specs.File.{Outcome, accepted, readFile}
@@ -149,3 +151,15 @@ pub record ModelDue (d : State) (r : ModelReply) : Type 0 where
 pub record ListingDue (d : State) (buffer : List ℕ) (said : Said ℕ) (after : List ℕ) : Type 0 where
   pub fitting : length (listingIn d) ≤ length buffer → (said ≡ gives (length (listingIn d))) × (after ≡ listingIn d ++ drop (length (listingIn d)) buffer)
   pub short : length buffer < length (listingIn d) → (said ≡ refused 25) × (after ≡ buffer)
+
+-- ---- what is due where the program has an answer set (document 02, A.14)
+
+-- a verdict is not refused by 24, and the one that is given accords with the answer sets
+pub record AccordDue (P : Program) (A : ℕ) (said : Said wfsx.Verdict) : Type 0 where
+  pub not-24 : said ≡ refused 24 → ⊥
+  pub accords : (v : wfsx.Verdict) → said ≡ gives v → Accords P A v
+
+-- the model call says that the lesson is not contradictory, and every answer set lies between the two sets that it gives
+pub record BetweenDue (P : Program) (r : ModelReply) : Type 0 where
+  pub consistent : modelSaid (r .answer) ≡ gives false
+  pub between : (S : Set) → AnswerSet P S → (setOf (r .model .truths .words) ⊆ S) × (S ⊆ setOf (r .model .nonfalse .words))

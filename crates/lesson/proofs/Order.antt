@@ -23,8 +23,8 @@ given-refused x n e = true≢false (ap isGiven e)
 pub refused-same : {X : Type 0} (m n : ℕ) → _≡_ {A = Said X} (refused m) (refused n) → m ≡ n
 refused-same m n e = ap numberIn e
 
-pub given-same : (a b : Bool) → _≡_ {A = Said Bool} (gives a) (gives b) → a ≡ b
-given-same a b e = cc
+pub given-same : {X : Type 0} (x y : X) → _≡_ {A = Said X} (gives x) (gives y) → x ≡ y
+given-same x y e = cc
 
 module _ {X : Type 0} (b : BookState) (said : Said X) where
   pub unloaded-says : noneLoaded b ≡ true → ifLoaded b said ≡ refused 20

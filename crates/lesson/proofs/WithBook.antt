@@ -7,15 +7,21 @@ use lib.ListN.{length}
 use borrow.Author.Tests.{le-leb, lt-leb}
 use Rattle.wfsx.specs.Sets.{Set, _∈_}
 use Rattle.wfsx.specs.Program.{Entry}
+use Rattle.wfsx.specs.Model.{Verdict}
 use Rattle.wfsx.specs.Trees.{Tree, answer}
 use Rattle.litset.specs.Words.{clashIn}
 use Rattle.fixpoint.specs.Result.{verdictIn}
 use Rattle.lesson.specs.State.{BookState, State, programIn, noneLoaded, inBook, gives, refused, searchSays, unlessClash, verdictSays, isClash, modelSays, setGiven, listingSays}
-use Rattle.lesson.proofs.Order.{loaded-says, inside, some-book}
+use Rattle.lesson.proofs.Order.{loaded-says, inside, given-inside, some-book}
 
 pub verdict-inside : (b : BookState) (T U : Set) (A : ℕ) → A ∈ inBook b → verdictSays b T U A ≡ unlessClash (clashIn T) (gives (verdictIn T U A))
 unfolding verdictSays
 verdict-inside b T U A i = inside b A _ (some-book b A i) i
+
+-- a verdict is given of a literal of the book
+pub verdict-given : (b : BookState) (T U : Set) (A : ℕ) (v : Verdict) → verdictSays b T U A ≡ gives v → A ∈ inBook b
+unfolding verdictSays
+verdict-given b T U A v e = given-inside b A _ v e .1
 
 pub search-inside : (d : State) (A : ℕ) (k : Tree) (question : Entry) → A ∈ inBook (d .book) → searchSays d A k question ≡ gives (answer (programIn d) k question)
 unfolding searchSays

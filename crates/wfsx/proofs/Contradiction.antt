@@ -15,12 +15,25 @@ use Rattle.truth.proofs.Truth.{clash, contra, refuted, not-mono, and-l, and-r, 
 use Rattle.wfsx.proofs.Sets.{first-missing}
 use Rattle.wfsx.proofs.Program.{compl-even, compl-odd, of-name}
 use Rattle.wfsx.proofs.Supported.{heads}
-use Rattle.wfsx.proofs.Operators.{round-map, Γ-ind, Γs-antitone, Γs-blocks, Γs-has, M-fixpoint, M-least, I⊆M, N-is, M-head}
+use Rattle.wfsx.proofs.Operators.{round-map, Γ-ind, Γ-head, Γs-antitone, Γs-blocks, Γs-has, M-fixpoint, M-from-N, M-least, I⊆M, N-is, M-head}
 
 pub heads-in : (P : Program) (base : Set) → Heads⊆ P base → (A : ℕ) → A isIn heads P → A ∈ base
 heads-in [] base h A m = elim m [ ]
 heads-in (r ∷ P) base h A (List·Memᴰ·head e) = rw e (h r (List·Memᴰ·head refl))
 heads-in (r ∷ P) base h A (List·Memᴰ·tail m) = heads-in P base (λ q i. h q (List·Memᴰ·tail i)) A m
+
+-- ---- both literals of a name
+
+both-literals : (S : Set) (A : ℕ) → A ∈ S → compl A ∈ S → Both S (A / 2)
+both-literals S A a c = go (of-name A)
+  where
+    go : (A ≡ 2 * (A / 2)) ⊎ (A ≡ 2 * (A / 2) + 1) → Both S (A / 2)
+    go (inl e) = (rw e at a, rw (ap compl e ∙ compl-even (A / 2)) at c)
+    go (inr e) = (rw (ap compl e ∙ compl-odd (A / 2)) at c, rw e at a)
+
+-- a set that has both literals of no name has no literal with its complement
+pub one-literal : (S : Set) → ((n : ℕ) → Both S n → ⊥) → (A : ℕ) → A ∈ S → compl A ∉ S
+one-literal S none A a = refuted (λ c. none (A / 2) (both-literals S A a c))
 
 module _ (P : Program) where
   -- ---- where M is consistent it lies in N
@@ -45,20 +58,14 @@ module _ (P : Program) where
     unfolding M N
     M⊆N = I⊆N (length P)
 
-  -- ---- both literals of a name
-
   -- M has a literal with its complement, or none
   consistent-or : ((A : ℕ) → A ∈ M P → compl A ∉ M P) ⊎ ((n : ℕ) × Both (M P) n)
   consistent-or = go (first-missing (λ A. not (M P (compl A))) (M P) (heads P))
     where
-      name : (A : ℕ) → A ∈ M P → compl A ∈ M P → (A ≡ 2 * (A / 2)) ⊎ (A ≡ 2 * (A / 2) + 1) → Both (M P) (A / 2)
-      name A a c (inl e) = (rw e at a, rw (ap compl e ∙ compl-even (A / 2)) at c)
-      name A a c (inr e) = (rw (ap compl e ∙ compl-odd (A / 2)) at c, rw e at a)
-
       go : ((A : ℕ) → A isIn heads P → A ∈ M P → not (M P (compl A)) ≡ true) ⊎ ((A : ℕ) × A isIn heads P × A ∈ M P × not (M P (compl A)) ≡ false)
           → ((A : ℕ) → A ∈ M P → compl A ∉ M P) ⊎ ((n : ℕ) × Both (M P) n)
       go (inl f) = inl (λ A a. not-true (M P (compl A)) (f A (M-head P A a) a))
-      go (inr w) = inr (w .0 / 2, name (w .0) (w .2) (not-false (M P (compl (w .0))) (w .3)) (of-name (w .0)))
+      go (inr w) = inr (w .0 / 2, both-literals (M P) (w .0) (w .2) (not-false (M P (compl (w .0))) (w .3)))
 
   -- ---- partial stable models over a base
 
@@ -90,25 +97,25 @@ module _ (P : Program) where
             not-outside (2 * n) (p .interpretation .true-in-base (2 * n) a) (rw (p .false-part) at (p .interpretation .disjoint (2 * n) a))
 
     module _ (over : Heads⊆ P base) where
-      stable : ((A : ℕ) → A ∈ M P → compl A ∉ M P) → PartialStable P base (M P) (base ∖ N P)
-      stable c =
+      -- T is the true part of a partial stable model where T = Γ(U), U = Γs(T) and T lies in U
+      pub stable-with : (T U : Set) → T ≡ Γ P U → U ≡ Γs P T → T ⊆ U → PartialStable P base T (base ∖ U)
+      stable-with T U t u within =
           record {
             interpretation = record {
-              true-in-base = λ A a. heads-in P base over A (M-head P A a);
+              true-in-base = λ A a. heads-in P base over A (Γ-head P U A (rw t at a));
               false-in-base = λ A a. and-l (base A) _ a;
-              disjoint = λ A a. refuted (λ h. clash (M⊆N c A a) (not-true (N P A) (and-r (base A) _ h)));
+              disjoint = λ A a. refuted (λ h. clash (within A a) (not-true (U A) (and-r (base A) _ h)));
             };
-            true-part = M-fixpoint P;
-            false-part = ap (λ (S : Set). base ∖ S) (N-is P);
+            true-part = t ∙ ap (Γ P) u;
+            false-part = ap (λ (S : Set). base ∖ S) u;
           }
+
+      stable : ((A : ℕ) → A ∈ M P → compl A ∉ M P) → PartialStable P base (M P) (base ∖ N P)
+      stable c = stable-with (M P) (N P) (M-from-N P) (N-is P) (M⊆N c)
 
       -- the least partial stable model, where no name has both literals in M
       pub least-partial-stable : ((n : ℕ) → Both (M P) n → ⊥) → PartialStable P base (M P) (base ∖ N P)
-      least-partial-stable none = go consistent-or
-        where
-          go : ((A : ℕ) → A ∈ M P → compl A ∉ M P) ⊎ ((n : ℕ) × Both (M P) n) → PartialStable P base (M P) (base ∖ N P)
-          go (inl c) = stable c
-          go (inr w) = absurd (none (w .0) (w .1))
+      least-partial-stable none = stable (one-literal (M P) none)
 
       -- no partial stable model exists exactly where M holds both literals of some name
       pub contradiction : Contradictory P base ↔ ((n : ℕ) × Both (M P) n)

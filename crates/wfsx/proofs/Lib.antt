@@ -1,4 +1,4 @@
--- The theorems. `Operators`, `Contradiction`, `Trees` and `Agreement` have those that README lists; the others serve them.
+-- The theorems. `Operators`, `Contradiction`, `AnswerSets`, `Trees` and `Agreement` have those that README lists; the others serve them.
 pub mod Sets
 pub mod Members
 pub mod Chain
@@ -8,6 +8,7 @@ pub mod Facts
 pub mod Operators
 pub mod Parts
 pub mod Contradiction
+pub mod AnswerSets
 pub mod Trees
 pub mod Ancestors
 pub mod Agreement

@@ -2,7 +2,7 @@
 
 use super::book::Book;
 use super::listing::listing;
-use super::model::{contradictory_name, verdict, Program};
+use super::model::{contradictory_name, members, verdict, Program};
 use super::reader::read;
 use super::trees::search;
 use crate::answer::{Model, Question, Refused, Verdict};
@@ -103,8 +103,4 @@ impl Desk {
         }
         Ok(book)
     }
-}
-
-fn members(set: &[bool]) -> BTreeSet<usize> {
-    (0..set.len()).filter(|&literal| set[literal]).collect()
 }

@@ -3,6 +3,7 @@
 //! It is there to be compared with, so it is plain: sets are lists of flags, trees are walked as
 //! they are defined, and nothing is left out by a theorem.
 
+mod answer_sets;
 mod book;
 mod desk;
 mod listing;
@@ -10,6 +11,7 @@ mod model;
 mod reader;
 mod trees;
 
+pub use answer_sets::{answer_sets, every_set};
 pub use book::{complement, Book, Entry, Rule};
 pub use book::{
     MOST_BODY_LITERALS, MOST_BYTES, MOST_IN_A_BODY, MOST_LETTERS, MOST_NAMES, MOST_RULES,

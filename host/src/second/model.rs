@@ -78,6 +78,11 @@ pub fn gamma(program: &Program, s: &[bool]) -> Vec<bool> {
     }
 }
 
+/// The literals of a set.
+pub fn members(set: &[bool]) -> BTreeSet<usize> {
+    (0..set.len()).filter(|&literal| set[literal]).collect()
+}
+
 /// M and N as lists of flags.
 #[derive(Clone, Debug, PartialEq, Eq)]
 pub struct Halves {
