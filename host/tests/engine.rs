@@ -112,7 +112,7 @@ fn models_stand_whatever_came_before() {
 fn answer_sets_are_in_accord() {
     let mut random = Random::new(seed() + 7);
     let mut accord = Accord::default();
-    for _ in 0..3_000 {
+    for _ in 0..8_000 {
         for calls in [
             gen::calls(&mut random, SMALL),
             gen::calls_on_circles(&mut random, TRIED),
@@ -121,8 +121,8 @@ fn answer_sets_are_in_accord() {
         }
     }
     println!("{accord:?}");
-    assert!(accord.one > 2_000 && accord.several > 500 && accord.none > 500);
-    assert!(accord.settled > 10_000 && accord.undefined > 2_000);
+    assert!(accord.one > 5_000 && accord.several > 1_500 && accord.none > 1_000);
+    assert!(accord.settled > 30_000 && accord.undefined > 6_000);
 }
 
 #[test]
