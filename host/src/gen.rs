@@ -85,8 +85,8 @@ pub const MIDDLE: Size = Size {
     body: 4,
 };
 
-/// Small enough that every set of literals can be tried.
-pub const TRIED: Size = Size {
+/// Books with circles: few names, so that every set of literals can be tried.
+const CIRCLES: Size = Size {
     names: 6,
     rules: 12,
     body: 3,
@@ -130,13 +130,13 @@ pub fn full_book(random: &mut Random) -> Book {
 
 /// A book with pairs of literals that are each other's exception, and some rules more, each with a body.
 /// Many such books have several answer sets.
-pub fn book_with_circles(random: &mut Random, size: Size) -> Book {
-    let names = random.between(2, size.names);
-    let lengths: Vec<usize> = (0..random.below(size.rules / 2))
-        .map(|_| random.between(1, size.body))
+fn book_with_circles(random: &mut Random) -> Book {
+    let names = random.between(2, CIRCLES.names);
+    let lengths: Vec<usize> = (0..random.below(CIRCLES.rules / 2))
+        .map(|_| random.between(1, CIRCLES.body))
         .collect();
     let mut book = book_of(random, names, &lengths);
-    for _ in 0..random.between(1, size.rules / 4) {
+    for _ in 0..random.between(1, CIRCLES.rules / 4) {
         let (one, other) = (random.below(2 * names), random.below(2 * names));
         for (head, exception) in [(one, other), (other, one)] {
             let body = vec![default(exception)];
@@ -735,8 +735,8 @@ pub fn calls(random: &mut Random, size: Size) -> Vec<Call> {
 }
 
 /// A load of a book with circles, and at most two facts put in.
-pub fn calls_on_circles(random: &mut Random, size: Size) -> Vec<Call> {
-    let book = book_with_circles(random, size);
+pub fn calls_on_circles(random: &mut Random) -> Vec<Call> {
+    let book = book_with_circles(random);
     let mut calls = vec![Call::Load(written(random, &book))];
     let facts = random.below(3);
     calls.extend((0..facts).map(|_| Call::PutIn(random.below(book.literals()))));

@@ -5,7 +5,7 @@ use mezhkura::accord::{accords, Accord};
 use mezhkura::answer::{BookSize, Fault, Model, Question, Refused, Tree, Verdict};
 use mezhkura::compare::{agree, answer_by_model, explain, models_stand, questions};
 use mezhkura::compare::{Asked, Calls, Stood, MOST_VISITS};
-use mezhkura::gen::{self, Random, Size, MIDDLE, SMALL, TRIED};
+use mezhkura::gen::{self, Random, Size, MIDDLE, SMALL};
 use mezhkura::second::{contradictory_name, every_set, gamma, program_output, read, search, size};
 use mezhkura::second::{Book, Desk, Program, Walk};
 use std::collections::BTreeSet;
@@ -537,7 +537,6 @@ fn models_that_come_from_more_than_book_and_facts_are_found() {
     }
 }
 
-/// The plain tree of the layered book doubles with each level.
 /// The answer sets of what so many lists of calls left, with which a desk is in accord, or a list that
 /// shows that it isn't.
 fn random_accord(how: How, lists: usize) -> Result<Accord, String> {
@@ -545,7 +544,7 @@ fn random_accord(how: How, lists: usize) -> Result<Accord, String> {
     let mut accord = Accord::default();
     for _ in 0..lists {
         accord += accords(&gen::calls(&mut random, SMALL), || Wrong::fresh(how))?;
-        let circles = gen::calls_on_circles(&mut random, TRIED);
+        let circles = gen::calls_on_circles(&mut random);
         accord += accords(&circles, || Wrong::fresh(how))?;
     }
     println!("{accord:?}");
@@ -567,6 +566,7 @@ fn desks_that_are_not_in_accord_with_answer_sets_are_found() {
     }
 }
 
+/// The plain tree of the layered book doubles with each level.
 #[test]
 fn the_layered_book_has_a_wide_tree() {
     let program = Program::new(&gen::layered_book(9), &BTreeSet::new());

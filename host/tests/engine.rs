@@ -6,7 +6,7 @@
 use mezhkura::accord::{accords, Accord};
 use mezhkura::compare::{agree, explain, models_stand, questions, Asked, Stood};
 use mezhkura::engine::Desk;
-use mezhkura::gen::{self, Call, Random, FULL, MIDDLE, SMALL, TRIED};
+use mezhkura::gen::{self, Call, Random, FULL, MIDDLE, SMALL};
 use mezhkura::second::read;
 use std::fs;
 use std::path::Path;
@@ -115,7 +115,7 @@ fn answer_sets_are_in_accord() {
     for _ in 0..8_000 {
         for calls in [
             gen::calls(&mut random, SMALL),
-            gen::calls_on_circles(&mut random, TRIED),
+            gen::calls_on_circles(&mut random),
         ] {
             accord += accords(&calls, Desk::fresh).unwrap_or_else(|text| panic!("{text}"));
         }
