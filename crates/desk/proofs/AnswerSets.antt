@@ -1,7 +1,7 @@
 -- After a list of calls whose program has an answer set the lesson is not contradictory, so 24 is not given; a verdict is the value in the least partial
 -- stable model, and that accords with the answer sets of every program.
 use mathlib.Core.Path.{_≡_, sym, _∙_, ap}
-use mathlib.Core.Logic.{⊎-elim}
+use mathlib.Core.Logic.{inl, inr, ⊎-elim}
 use mathlib.Core.List.{List}
 use Prim.Native.Nat.{ℕ}
 use native.Mathlib.Omega.{arith}
@@ -39,9 +39,10 @@ module _ (cs : List Call) (S : Set) (a : AnswerSet (programIn (left cs)) S) wher
   pub never-contradictory : ContradictoryOver base (left cs) → ⊥
   never-contradictory = answer-set-consistent P S a base (heads-in-book (left cs) (left-sound cs))
 
-  -- 24 stands third, and its condition is not met
+  -- 24 stands behind 20 and 21, and its condition is not met
   not-first : (A : ℕ) → First 24 (verdictRows (left cs) A) → ⊥
-  not-first A = ⊎-elim (λ w. let e = w .0 in omega arith) (λ w. ⊎-elim (λ v. let e = v .0 in omega arith) (λ v. ⊎-elim (λ c. never-contradictory (c .1)) (λ c. c .1) (v .1)) (w .1))
+  not-first A (inl by-20) = let e = by-20 .0 in omega arith
+  not-first A (inr past-20) = ⊎-elim (λ by-21. let e = by-21 .0 in omega arith) (λ past-21. ⊎-elim (λ by-24. never-contradictory (by-24 .1)) (λ past-24. past-24 .1) (past-21 .1)) (past-20 .1)
 
   module _ (start k : Desk) (f : Fresh start) (run : Run start cs k) where
     pub accord-due : (A : ℕ) (r : VerdictAnswer) → GivesVerdict (k .shelf) (k .lesson) A r → AccordDue P A (verdictSaid r)
@@ -50,11 +51,15 @@ module _ (cs : List Call) (S : Set) (a : AnswerSet (programIn (left cs)) S) wher
       where
         accords : (v : wfsx.Verdict) → verdictSaid r ≡ gives v → Accords P A v
         accords v e =
-            let i = rw (ap (λ (d : State). d .book) (left-means cs start k f run)) at (verdict-given (shelfOf (k .shelf)) (truthsOf (k .lesson)) (nonfalseOf (k .lesson)) A v (sym (h .says) ∙ e)) in
+            let given = verdict-given (shelfOf (k .shelf)) (truthsOf (k .lesson)) (nonfalseOf (k .lesson)) A v (sym (h .says) ∙ e) in
+            let i = rw (ap (λ (d : State). d .book) (left-means cs start k f run)) at given in
             let due = demand2 cs start k f run A i r h .given never-contradictory in
             rw (given-same v (due .0) (sym e ∙ due .1) ∙ due .2 .value ∙ sym (verdict-value P base A i)) (verdict-accords P A)
 
     pub between-due : (NoBook (left cs) → ⊥) → (r : ModelReply) → GivesModel (k .shelf) (k .lesson) r → BetweenDue P r
     between-due some r h =
         let due = model-due cs start k f run some r h in
-        record { consistent = due .consistent .1 never-contradictory; between = λ U u. (rw (due .sets .truths) (M⊆answer-set P U u), rw (due .sets .nonfalse) (answer-set⊆N P U u)) }
+        record {
+          consistent = due .consistent .1 never-contradictory;
+          between = λ U u. (rw (due .sets .truths) (M⊆answer-set P U u), rw (due .sets .nonfalse) (answer-set⊆N P U u));
+        }

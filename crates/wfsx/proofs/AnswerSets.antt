@@ -45,7 +45,10 @@ verdict-accords P A = rw (verdict-is P A) (go (M P A) (N P A) refl refl)
 
 -- Where M = N every literal is true or false, and M is the only answer set.
 pub only-answer-set : (P : Program) → M P ≡ N P → AnswerSet P (M P) × ((S : Set) → AnswerSet P S → S ≡ M P)
-only-answer-set P e = (record { fixpoint = M-from-N P ∙ ap (Γ P) (sym e); consistent = one }, λ S a. ⊆-antisym (λ A h. rw e (answer-set⊆N P S a A h)) (M⊆answer-set P S a))
+only-answer-set P e = (
+  record { fixpoint = M-from-N P ∙ ap (Γ P) (sym e); consistent = one },
+  λ S a. ⊆-antisym (λ A h. rw e (answer-set⊆N P S a A h)) (M⊆answer-set P S a),
+)
   where
     one : (n : ℕ) → Both (M P) n → ⊥
     one n b = clash (b .1) (rw (compl-even n) at (Γs-blocks P (M P) (2 * n) (rw (e ∙ N-is P) at (b .0))))
