@@ -59,7 +59,7 @@ pub fn agree(calls: &[Call], other: &mut dyn Calls) -> Result<Asked, Vec<Call>> 
     agree_at_the_end(&second, other).map_err(|call| [calls, &[call]].concat())
 }
 
-/// Makes the calls of a list on another desk and on the second implementation's, which is answered.
+/// The second implementation's desk after a list of calls, which are made on another desk as well.
 pub(crate) fn second_after(calls: &[Call], other: &mut dyn Calls) -> Desk {
     let mut second = Desk::fresh();
     for call in calls {

@@ -85,13 +85,6 @@ pub const MIDDLE: Size = Size {
     body: 4,
 };
 
-/// Books with circles: few names, so that every set of literals can be tried.
-const CIRCLES: Size = Size {
-    names: 6,
-    rules: 12,
-    body: 3,
-};
-
 /// The limits of document 01.
 pub const FULL: Size = Size {
     names: MOST_NAMES,
@@ -129,14 +122,13 @@ pub fn full_book(random: &mut Random) -> Book {
 }
 
 /// A book with pairs of literals that are each other's exception, and some rules more, each with a body.
-/// Many such books have several answer sets.
+/// Many such books have several answer sets. There are few names, so that every set of literals can be
+/// tried.
 fn book_with_circles(random: &mut Random) -> Book {
-    let names = random.between(2, CIRCLES.names);
-    let lengths: Vec<usize> = (0..random.below(CIRCLES.rules / 2))
-        .map(|_| random.between(1, CIRCLES.body))
-        .collect();
+    let names = random.between(2, 6);
+    let lengths: Vec<usize> = (0..random.below(6)).map(|_| random.between(1, 3)).collect();
     let mut book = book_of(random, names, &lengths);
-    for _ in 0..random.between(1, CIRCLES.rules / 4) {
+    for _ in 0..random.between(1, 3) {
         let (one, other) = (random.below(2 * names), random.below(2 * names));
         for (head, exception) in [(one, other), (other, one)] {
             let body = vec![default(exception)];

@@ -1,17 +1,17 @@
 -- An answer set is a partial stable model that leaves no literal undefined: none of its literals has its complement in it, so Γs makes of it what Γ
 -- makes. Hence it lies between M and N, and its program is not contradictory (003, theorem 2.2).
 use mathlib.Core.Path.{_≡_, refl, sym, _∙_, ap}
+use mathlib.Core.Logic.{⊎-elim}
 use mathlib.Core.Bool.{Bool, true, false, cond}
-use Prim.Native.Nat.{ℕ, _*_}
+use Prim.Native.Nat.{ℕ}
 use Rattle.wfsx.specs.Sets.{Set, _∈_, _⊆_, _∖_}
 use Rattle.wfsx.specs.Program.{Program}
 use Rattle.wfsx.specs.Model.{Γ, Γs, M, N, PartialStable, Heads⊆, Contradictory, Both, is-true, is-false, is-undefined, verdict}
 use Rattle.wfsx.specs.AnswerSets.{AnswerSet, Accords}
-use Rattle.truth.proofs.Truth.{clash, contra}
+use Rattle.truth.proofs.Truth.{decided, contra}
 use Rattle.wfsx.proofs.Sets.{⊆-antisym}
-use Rattle.wfsx.proofs.Program.{compl-even}
-use Rattle.wfsx.proofs.Operators.{round-map, Γ-ind, Γs-antitone, Γs-blocks, Γs-has, Γs⊆Γ, M-least, M-from-N, N-is, verdict-is}
-use Rattle.wfsx.proofs.Contradiction.{one-literal, stable-with}
+use Rattle.wfsx.proofs.Operators.{round-map, Γ-ind, Γs-antitone, Γs-has, Γs⊆Γ, M-least, M-from-N, N-is, verdict-is}
+use Rattle.wfsx.proofs.Contradiction.{one-literal, M⊆N, stable-with}
 
 module _ (P : Program) (S : Set) (a : AnswerSet P S) where
   answer-set-Γs : S ≡ Γs P S
@@ -43,12 +43,16 @@ verdict-accords P A = rw (verdict-is P A) (go (M P A) (N P A) refl refl)
     go false true _ n = tt
     go false false _ n = λ S a. contra (answer-set⊆N P S a A) n
 
--- Where M = N every literal is true or false, and M is the only answer set.
-pub only-answer-set : (P : Program) → M P ≡ N P → AnswerSet P (M P) × ((S : Set) → AnswerSet P S → S ≡ M P)
-only-answer-set P e = (
-  record { fixpoint = M-from-N P ∙ ap (Γ P) (sym e); consistent = one },
-  λ S a. ⊆-antisym (λ A h. rw e (answer-set⊆N P S a A h)) (M⊆answer-set P S a),
+-- where M has both literals of no name and no verdict is undefined, M is the only answer set
+pub only-answer-set : (P : Program) → ((n : ℕ) → Both (M P) n → ⊥) → ((A : ℕ) → verdict P A ≡ is-undefined → ⊥)
+    → AnswerSet P (M P) × ((S : Set) → AnswerSet P S → S ≡ M P)
+only-answer-set P none settled = (
+  record { fixpoint = M-from-N P ∙ ap (Γ P) (sym same); consistent = none },
+  λ S a. ⊆-antisym (λ A h. rw same (answer-set⊆N P S a A h)) (M⊆answer-set P S a),
 )
   where
-    one : (n : ℕ) → Both (M P) n → ⊥
-    one n b = clash (b .1) (rw (compl-even n) at (Γs-blocks P (M P) (2 * n) (rw (e ∙ N-is P) at (b .0))))
+    N⊆M : N P ⊆ M P
+    N⊆M A h = ⊎-elim (λ m. m) (λ o. absurd (settled A (verdict-is P A ∙ rw o (rw h refl)))) (decided (M P A))
+
+    same : M P ≡ N P
+    same = ⊆-antisym (M⊆N P (one-literal (M P) none)) N⊆M

@@ -54,7 +54,7 @@ module _ (P : Program) where
     I⊆N zero A h = absurd (clash h refl)
     I⊆N (suc k) A h = next k (I⊆N k) A h
 
-    M⊆N : M P ⊆ N P
+    pub M⊆N : M P ⊆ N P
     unfolding M N
     M⊆N = I⊆N (length P)
 

@@ -1,4 +1,4 @@
--- The theorems. `Operators`, `Contradiction`, `AnswerSets`, `Trees` and `Agreement` have those that README lists; the others serve them.
+-- The theorems. README lists them by file; the files that it leaves out serve the others.
 pub mod Sets
 pub mod Members
 pub mod Chain
