@@ -61,5 +61,5 @@ module _ (cs : List Call) (S : Set) (a : AnswerSet (programIn (left cs)) S) wher
         let due = model-due cs start k f run some r h in
         record {
           consistent = due .consistent .1 never-contradictory;
-          between = λ U u. (rw (due .sets .truths) (M⊆answer-set P U u), rw (due .sets .nonfalse) (answer-set⊆N P U u));
+          between = λ U u. (rw (due .model-is .truths) (M⊆answer-set P U u), rw (due .model-is .nonfalse) (answer-set⊆N P U u));
         }

@@ -6,7 +6,7 @@ use mathlib.Core.List.{List}
 use mathlib.Core.Logic.{_↔_}
 use Prim.Native.Nat.{ℕ, _≤_}
 use lib.ListN.{length}
-use Rattle.wfsx.specs.Sets.{Set}
+use Rattle.wfsx.specs.Sets.{Set, ∅}
 use Rattle.wfsx.specs.Model.{M}
 use Rattle.litset.specs.Words.{clashIn}
 use Rattle.litset.specs.declared.Clash.{Clash}
@@ -18,8 +18,8 @@ use Rattle.lesson.specs.Conditions.{NoBook}
 use Rattle.lesson.specs.declared.ModelReply.{ModelReply}
 use Rattle.lesson.specs.declared.ListingAnswer.{ListingAnswer}
 use Rattle.lesson.proofs.Order.{given-same}
-use Rattle.lesson.proofs.WithBook.{model-loaded, set-loaded, listing-fits, listing-short}
-use Rattle.lesson.proofs.Sound.{Sound, heads-in-book, heads-in-room}
+use Rattle.lesson.proofs.WithBook.{model-loaded, part-loaded, listing-fits, listing-short}
+use Rattle.lesson.proofs.Sound.{Sound, heads-in-book, heads-in-room, rounds-in-room}
 use Rattle.lesson.proofs.Replies.{bytes-most}
 use Rattle.lesson.proofs.Standing.{bytes-stand}
 use Rattle.desk.specs.Calls.{Fresh}
@@ -60,10 +60,11 @@ module _ (cs : List Call) (start k : Desk) (f : Fresh start) (run : Run start cs
       record {
         contradictory = rw said (due .0);
         consistent = rw said (due .1);
-        sets =
+        model-is =
             record {
-              truths = h .truths ∙ set-loaded (shelfOf (k .shelf)) there (truthsOf (k .lesson)) ∙ stands .truths;
-              nonfalse = h .nonfalse ∙ set-loaded (shelfOf (k .shelf)) there (nonfalseOf (k .lesson)) ∙ stands .nonfalse;
+              truths = h .truths ∙ part-loaded (shelfOf (k .shelf)) there (truthsOf (k .lesson)) ∅ ∙ stands .truths;
+              nonfalse = h .nonfalse ∙ part-loaded (shelfOf (k .shelf)) there (nonfalseOf (k .lesson)) ∅ ∙ stands .nonfalse;
+              rounds = h .rounds ∙ part-loaded (shelfOf (k .shelf)) there (k .lesson .model .rounds) 0 ∙ stands .rounds;
             };
       }
 
@@ -72,7 +73,9 @@ module _ (cs : List Call) (start k : Desk) (f : Fresh start) (run : Run start cs
 
   -- a buffer of this length is enough for every listing
   pub listing-most : length (listingIn (left cs)) ≤ 65536
-  listing-most = rw bytes-left at (bytes-most (k .shelf) (k .lesson) there)
+  listing-most =
+      let few = rounds-in-room (left cs) (rw (left-means cs start k f run) at (left-good cs start k f run .sound)) in
+      rw bytes-left at (bytes-most (k .shelf) (k .lesson) there (rw (standing-left cs start k f run .rounds) few))
 
   -- every listing of a run gives the length of the listing of the list's book and facts, and writes it into a buffer that is long enough
   pub listing-due : (buffer : List ℕ) (r : ListingAnswer) (after : List ℕ) → Lists (k .shelf) (k .lesson) buffer r after → ListingDue (left cs) buffer (listingSaid r) after

@@ -4,6 +4,7 @@ use mathlib.Core.List.{map}
 use Rattle.wfsx.specs.Sets.{membersFrom}
 use Rattle.wfsx.specs.Program.{compl}
 use Rattle.wfsx.specs.Model.{every, supported, Γ, Γs, I, M, N, verdict}
+use Rattle.wfsx.specs.Rounds.{hasHeads, firstStill, rounds}
 use Rattle.wfsx.specs.Trees.{cut, tree, answer}
 use Rattle.litset.specs.Words.{without, clashFrom}
 use Rattle.scan.specs.Text.{allBytes, split, lenTo, isName, sameBytes, sameName, wordOf}
@@ -14,5 +15,5 @@ use Rattle.lesson.specs.State.{inForce, programIn, inBook, listingIn, ifLoaded,
 use Rattle.desk.specs.Cases.{found, cases}
 
 pub cases-hold : map found cases ≡ cases
-unfolding membersFrom compl every supported Γ Γs I M N verdict cut tree answer without allBytes split lenTo isName sameBytes wordOf sameName findFrom bodyLiterals allFields wrongFields malformed declaredBefore usesUndeclared beyondTable faultOf lineFault literalNumber entryFrom extended withLine readLines readFile lastDigits digits line nameLines listingBy clashFrom listingOf inForce programIn inBook listingIn ifLoaded inOrder changeSays
+unfolding membersFrom compl every supported Γ Γs I M N verdict hasHeads firstStill rounds cut tree answer without allBytes split lenTo isName sameBytes wordOf sameName findFrom bodyLiterals allFields wrongFields malformed declaredBefore usesUndeclared beyondTable faultOf lineFault literalNumber entryFrom extended withLine readLines readFile lastDigits digits line nameLines listingBy clashFrom listingOf inForce programIn inBook listingIn ifLoaded inOrder changeSays
 cases-hold = refl

@@ -13,3 +13,4 @@ pub mod Cases
 pub mod Sizing
 pub mod Parted
 pub mod Spelling
+pub mod Rounds

@@ -13,6 +13,7 @@ use borrow.Author.Tests.{ltb-true}
 use Rattle.wfsx.specs.Sets.{_isIn_}
 use Rattle.wfsx.specs.Program.{Rule}
 use Rattle.wfsx.specs.Model.{Verdict, is-true, is-false, is-undefined}
+use Rattle.litset.specs.declared.Clash.{Clash}
 use Rattle.litset.specs.declared.Clash.the-variants.{None, Name}
 use Rattle.scan.specs.Text.{allBytes, fields, comma, newline}
 use Rattle.scan.specs.declared.Alphabet.the-variants.{EitherCase}
@@ -140,27 +141,40 @@ module _ (v : ℕ → Verdict) where
       ap (λ (fs : List (List ℕ)). getD fs 1 []) (body-fields (digits k) (name ∷ verdictFields v k) (body-plain k (a name (List·Memᴰ·head refl))))
   body-name k (name ∷ names) a (suc i) h = body-name (suc k) names (λ f m. a f (List·Memᴰ·tail m)) i (omega arith)
 
--- ---- NAME in a listing
+-- ---- the fields of a listing
 
-module _ (names : List (List ℕ)) (a : AllPlain names) (rules facts : ℕ) (v : ℕ → Verdict) where
-  counts-plain : {fs : List (List ℕ)} → AllPlain fs → AllPlain (counts (length names) rules facts ++ fs)
-  counts-plain p = one-more (digits-plain (length names)) (one-more (digits-plain rules) (one-more (digits-plain facts) p))
+module _ (names : List (List ℕ)) (a : AllPlain names) (rules facts k : ℕ) (v : ℕ → Verdict) where
+  abbrev header : List (List ℕ)
+  header = counts (length names) rules facts k
 
-  model-lines : linesOf (listingBy names rules facts v None) ≡ lineBody modelWord (counts (length names) rules facts) ∷ bodies v 0 names
-  unfolding listingBy allBytes
+  counts-plain : {fs : List (List ℕ)} → AllPlain fs → AllPlain (header ++ fs)
+  counts-plain p = one-more (digits-plain (length names)) (one-more (digits-plain rules) (one-more (digits-plain facts) (one-more (digits-plain k) p)))
+
+  model-plain : AllPlain (modelWord ∷ header)
+  unfolding allBytes
+  model-plain = one-more (word-plain modelWord refl) (counts-plain no-fields)
+
+  model-lines : linesOf (listingBy names rules facts k v None) ≡ lineBody modelWord header ∷ bodies v 0 names
+  unfolding listingBy
   model-lines =
-      let fs = counts (length names) rules facts in
-      let parts = first-closed modelWord fs (bodies v 0 names) ∙ ap (λ (l : List ℕ). line modelWord fs ++ l) (bodies-closed v 0 names) in
-      let plain = one-more (word-plain modelWord refl) (counts-plain no-fields) in
-      ap linesOf (sym parts) ∙ lines-closed (lineBody modelWord fs ∷ bodies v 0 names) (first-free modelWord fs (bodies v 0 names) plain (bodies-free v 0 names a))
+      let parts = first-closed modelWord header (bodies v 0 names) ∙ ap (λ (l : List ℕ). line modelWord header ++ l) (bodies-closed v 0 names) in
+      ap linesOf (sym parts) ∙ lines-closed (lineBody modelWord header ∷ bodies v 0 names) (first-free modelWord header (bodies v 0 names) model-plain (bodies-free v 0 names a))
 
-  pub name-in-line : (k : ℕ) → k < length names → fieldAt (listingBy names rules facts v None) (k + 1) 1 ≡ getD names k []
-  name-in-line k h = rw (model-lines, add-one k) (body-name v 0 names a k h)
-
-  pub name-in-header : (n : ℕ) → fieldAt (listingBy names rules facts v (Name n)) 0 4 ≡ getD names n []
+  contradiction-fields : (n : ℕ) → fields (getD (linesOf (listingBy names rules facts k v (Name n))) 0 []) ≡ contradictionWord ∷ (header ++ (getD names n [] ∷ []))
   unfolding listingBy allBytes closed
-  name-in-header n =
-      let fs = counts (length names) rules facts ++ (getD names n [] ∷ []) in
+  contradiction-fields n =
+      let fs = header ++ (getD names n [] ∷ []) in
       let plain = one-more (word-plain contradictionWord refl) (counts-plain (one-more (plain-at names a n) no-fields)) in
       let lines = ap linesOf (line-body contradictionWord fs) ∙ lines-closed (lineBody contradictionWord fs ∷ []) (first-free contradictionWord fs [] plain (λ p m i. List·Memᴰ·not-nil m)) in
-      ap (λ (ls : List (List ℕ)). getD (fields (getD ls 0 [])) 4 []) lines ∙ ap (λ (gs : List (List ℕ)). getD gs 4 []) (body-fields contradictionWord fs plain)
+      ap (λ (ls : List (List ℕ)). fields (getD ls 0 [])) lines ∙ body-fields contradictionWord fs plain
+
+  pub name-in-line : (i : ℕ) → i < length names → fieldAt (listingBy names rules facts k v None) (i + 1) 1 ≡ getD names i []
+  name-in-line i h = rw (model-lines, add-one i) (body-name v 0 names a i h)
+
+  pub name-in-header : (n : ℕ) → fieldAt (listingBy names rules facts k v (Name n)) 0 5 ≡ getD names n []
+  name-in-header n = ap (λ (fs : List (List ℕ)). getD fs 5 []) (contradiction-fields n)
+
+  -- both headers have the rounds behind the count of facts
+  pub rounds-in-header : (c : Clash) → fieldAt (listingBy names rules facts k v c) 0 4 ≡ digits k
+  rounds-in-header None = rw model-lines (ap (λ (fs : List (List ℕ)). getD fs 4 []) (body-fields modelWord header model-plain))
+  rounds-in-header (Name n) = ap (λ (fs : List (List ℕ)). getD fs 4 []) (contradiction-fields n)

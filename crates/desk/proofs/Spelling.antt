@@ -11,6 +11,7 @@ use borrow.Author.Tests.{ltb-true}
 use Rattle.wfsx.specs.Sets.{_isIn_, members}
 use Rattle.wfsx.specs.Program.{Rule}
 use Rattle.wfsx.specs.Model.{M, verdict}
+use Rattle.wfsx.specs.Rounds.{rounds}
 use Rattle.wfsx.proofs.Contradiction.{heads-in}
 use Rattle.wfsx.proofs.Operators.{M-head}
 use Rattle.litset.specs.Words.{capacity, clashIn}
@@ -60,10 +61,11 @@ module _ (names : List (List ℕ)) (rules : List Rule) where
 
 -- ---- the listing
 
-listing-is : (d : State) (c : Clash) → clashIn (M (programIn d)) ≡ c
-    → listingIn d ≡ listingBy (itsNames (d .book)) (length (itsRules (d .book))) (length (members capacity (inForce (d .own)))) (verdict (programIn d)) c
+pub listing-is : (d : State) (c : Clash) → clashIn (M (programIn d)) ≡ c
+    → listingIn d ≡ listingBy (itsNames (d .book)) (length (itsRules (d .book))) (length (members capacity (inForce (d .own)))) (rounds (programIn d)) (verdict (programIn d)) c
 unfolding listingIn listingOf programIn
-listing-is d c e = ap (listingBy (itsNames (d .book)) (length (itsRules (d .book))) (length (members capacity (inForce (d .own)))) (verdict (programIn d))) e
+listing-is d c e =
+    ap (listingBy (itsNames (d .book)) (length (itsRules (d .book))) (length (members capacity (inForce (d .own)))) (rounds (programIn d)) (verdict (programIn d))) e
 
 -- the literals of M are literals of the book
 clash-below : (cs : List Call) (n : ℕ) → clashIn (M (programIn (left cs))) ≡ Name n → n < length (itsNames (left cs .book))
@@ -83,13 +85,14 @@ names-spelled cs names rules e =
     let l = ⊎-elim (λ z. absurd (true≢false (ap noneLoaded z))) (λ l. l) (by-list names rules nothing cs e) in
     let plain = names-plain (l .0) names rules (l .2) in
     let facts = length (members capacity (inForce (d .own))) in
+    let k = rounds (programIn d) in
     let v = verdict (programIn d) in
-    let listed : (c : Clash) → clashIn (M (programIn d)) ≡ c → listingIn d ≡ listingBy names (length rules) facts v c = λ c q. rw e at (listing-is d c q) in
+    let listed : (c : Clash) → clashIn (M (programIn d)) ≡ c → listingIn d ≡ listingBy names (length rules) facts k v c = λ c q. rw e at (listing-is d c q) in
     let declared : (k : ℕ) → getD names k [] ≡ declaringField (l .0) k = λ k. ap (λ (ns : List (List ℕ)). getD ns k []) (names-as-declared (l .0) names rules (l .2)) in
     record {
       file = l .0;
       is-loaded = l .1;
       read-as = l .2;
-      in-its-line = λ q k h. rw (listed None q) (name-in-line names plain (length rules) facts v k h ∙ declared k);
-      in-the-header = λ n q. (rw e at (clash-below cs n q), rw (listed (Name n) q) (name-in-header names plain (length rules) facts v n ∙ declared n));
+      in-its-line = λ q i h. rw (listed None q) (name-in-line names plain (length rules) facts k v i h ∙ declared i);
+      in-the-header = λ n q. (rw e at (clash-below cs n q), rw (listed (Name n) q) (name-in-header names plain (length rules) facts k v n ∙ declared n));
     }

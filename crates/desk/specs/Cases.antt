@@ -44,12 +44,12 @@ found c =
 abbrev file-1 : List ℕ
 file-1 = 110 ∷ 97 ∷ 109 ∷ 101 ∷ 44 ∷ 109 ∷ 111 ∷ 118 ∷ 105 ∷ 110 ∷ 103 ∷ 10 ∷ 110 ∷ 97 ∷ 109 ∷ 101 ∷ 44 ∷ 108 ∷ 111 ∷ 99 ∷ 107 ∷ 101 ∷ 100 ∷ 10 ∷ 110 ∷ 97 ∷ 109 ∷ 101 ∷ 44 ∷ 102 ∷ 97 ∷ 117 ∷ 108 ∷ 116 ∷ 10 ∷ 110 ∷ 97 ∷ 109 ∷ 101 ∷ 44 ∷ 115 ∷ 116 ∷ 97 ∷ 108 ∷ 108 ∷ 101 ∷ 100 ∷ 10 ∷ 114 ∷ 117 ∷ 108 ∷ 101 ∷ 44 ∷ 109 ∷ 111 ∷ 118 ∷ 105 ∷ 110 ∷ 103 ∷ 44 ∷ 126 ∷ 108 ∷ 111 ∷ 99 ∷ 107 ∷ 101 ∷ 100 ∷ 10 ∷ 114 ∷ 117 ∷ 108 ∷ 101 ∷ 44 ∷ 108 ∷ 111 ∷ 99 ∷ 107 ∷ 101 ∷ 100 ∷ 44 ∷ 126 ∷ 109 ∷ 111 ∷ 118 ∷ 105 ∷ 110 ∷ 103 ∷ 10 ∷ 114 ∷ 117 ∷ 108 ∷ 101 ∷ 44 ∷ 102 ∷ 97 ∷ 117 ∷ 108 ∷ 116 ∷ 44 ∷ 109 ∷ 111 ∷ 118 ∷ 105 ∷ 110 ∷ 103 ∷ 44 ∷ 126 ∷ 115 ∷ 116 ∷ 97 ∷ 108 ∷ 108 ∷ 101 ∷ 100 ∷ 10 ∷ 114 ∷ 117 ∷ 108 ∷ 101 ∷ 44 ∷ 45 ∷ 108 ∷ 111 ∷ 99 ∷ 107 ∷ 101 ∷ 100 ∷ 10 ∷ 114 ∷ 117 ∷ 108 ∷ 101 ∷ 44 ∷ 115 ∷ 116 ∷ 97 ∷ 108 ∷ 108 ∷ 101 ∷ 100 ∷ 44 ∷ 126 ∷ 115 ∷ 116 ∷ 97 ∷ 108 ∷ 108 ∷ 101 ∷ 100 ∷ 10 ∷ 101 ∷ 110 ∷ 100 ∷ 10 ∷ []
 
--- 1: lists model,4,5,0 / 0,moving,true,false / 1,locked,false,true / 2,fault,undefined,false / 3,stalled,undefined,false
+-- 1: lists model,4,5,0,2 / 0,moving,true,false / 1,locked,false,true / 2,fault,undefined,false / 3,stalled,undefined,false
 abbrev case-1 : Case
 case-1 =
     record {
       calls = load file-1 ∷ [];
-      listing = 109 ∷ 111 ∷ 100 ∷ 101 ∷ 108 ∷ 44 ∷ 52 ∷ 44 ∷ 53 ∷ 44 ∷ 48 ∷ 10 ∷ 48 ∷ 44 ∷ 109 ∷ 111 ∷ 118 ∷ 105 ∷ 110 ∷ 103 ∷ 44 ∷ 116 ∷ 114 ∷ 117 ∷ 101 ∷ 44 ∷ 102 ∷ 97 ∷ 108 ∷ 115 ∷ 101 ∷ 10 ∷ 49 ∷ 44 ∷ 108 ∷ 111 ∷ 99 ∷ 107 ∷ 101 ∷ 100 ∷ 44 ∷ 102 ∷ 97 ∷ 108 ∷ 115 ∷ 101 ∷ 44 ∷ 116 ∷ 114 ∷ 117 ∷ 101 ∷ 10 ∷ 50 ∷ 44 ∷ 102 ∷ 97 ∷ 117 ∷ 108 ∷ 116 ∷ 44 ∷ 117 ∷ 110 ∷ 100 ∷ 101 ∷ 102 ∷ 105 ∷ 110 ∷ 101 ∷ 100 ∷ 44 ∷ 102 ∷ 97 ∷ 108 ∷ 115 ∷ 101 ∷ 10 ∷ 51 ∷ 44 ∷ 115 ∷ 116 ∷ 97 ∷ 108 ∷ 108 ∷ 101 ∷ 100 ∷ 44 ∷ 117 ∷ 110 ∷ 100 ∷ 101 ∷ 102 ∷ 105 ∷ 110 ∷ 101 ∷ 100 ∷ 44 ∷ 102 ∷ 97 ∷ 108 ∷ 115 ∷ 101 ∷ 10 ∷ [];
+      listing = 109 ∷ 111 ∷ 100 ∷ 101 ∷ 108 ∷ 44 ∷ 52 ∷ 44 ∷ 53 ∷ 44 ∷ 48 ∷ 44 ∷ 50 ∷ 10 ∷ 48 ∷ 44 ∷ 109 ∷ 111 ∷ 118 ∷ 105 ∷ 110 ∷ 103 ∷ 44 ∷ 116 ∷ 114 ∷ 117 ∷ 101 ∷ 44 ∷ 102 ∷ 97 ∷ 108 ∷ 115 ∷ 101 ∷ 10 ∷ 49 ∷ 44 ∷ 108 ∷ 111 ∷ 99 ∷ 107 ∷ 101 ∷ 100 ∷ 44 ∷ 102 ∷ 97 ∷ 108 ∷ 115 ∷ 101 ∷ 44 ∷ 116 ∷ 114 ∷ 117 ∷ 101 ∷ 10 ∷ 50 ∷ 44 ∷ 102 ∷ 97 ∷ 117 ∷ 108 ∷ 116 ∷ 44 ∷ 117 ∷ 110 ∷ 100 ∷ 101 ∷ 102 ∷ 105 ∷ 110 ∷ 101 ∷ 100 ∷ 44 ∷ 102 ∷ 97 ∷ 108 ∷ 115 ∷ 101 ∷ 10 ∷ 51 ∷ 44 ∷ 115 ∷ 116 ∷ 97 ∷ 108 ∷ 108 ∷ 101 ∷ 100 ∷ 44 ∷ 117 ∷ 110 ∷ 100 ∷ 101 ∷ 102 ∷ 105 ∷ 110 ∷ 101 ∷ 100 ∷ 44 ∷ 102 ∷ 97 ∷ 108 ∷ 115 ∷ 101 ∷ 10 ∷ [];
       verdicts = (0, is-true) ∷ (1, is-false) ∷ (2, is-false) ∷ (3, is-true) ∷ (4, is-undefined) ∷ (5, is-false) ∷ (6, is-undefined) ∷ (7, is-false) ∷ [];
       answers = asks 0 false T true ∷ asks 0 false TU true ∷ asks 0 true T false ∷ asks 0 true TU false ∷ asks 2 false T false ∷ asks 2 false TU false ∷ asks 2 true T true ∷ asks 2 true TU true ∷ asks 4 false T false ∷ asks 4 false TU true ∷ asks 4 true T false ∷ asks 4 true TU true ∷ [];
     }
@@ -58,12 +58,12 @@ case-1 =
 abbrev file-2 : List ℕ
 file-2 = 110 ∷ 97 ∷ 109 ∷ 101 ∷ 44 ∷ 97 ∷ 10 ∷ 114 ∷ 117 ∷ 108 ∷ 101 ∷ 44 ∷ 97 ∷ 44 ∷ 97 ∷ 10 ∷ 101 ∷ 110 ∷ 100 ∷ 10 ∷ []
 
--- 2: lists model,1,1,0 / 0,a,false,false
+-- 2: lists model,1,1,0,0 / 0,a,false,false
 abbrev case-2 : Case
 case-2 =
     record {
       calls = load file-2 ∷ [];
-      listing = 109 ∷ 111 ∷ 100 ∷ 101 ∷ 108 ∷ 44 ∷ 49 ∷ 44 ∷ 49 ∷ 44 ∷ 48 ∷ 10 ∷ 48 ∷ 44 ∷ 97 ∷ 44 ∷ 102 ∷ 97 ∷ 108 ∷ 115 ∷ 101 ∷ 44 ∷ 102 ∷ 97 ∷ 108 ∷ 115 ∷ 101 ∷ 10 ∷ [];
+      listing = 109 ∷ 111 ∷ 100 ∷ 101 ∷ 108 ∷ 44 ∷ 49 ∷ 44 ∷ 49 ∷ 44 ∷ 48 ∷ 44 ∷ 48 ∷ 10 ∷ 48 ∷ 44 ∷ 97 ∷ 44 ∷ 102 ∷ 97 ∷ 108 ∷ 115 ∷ 101 ∷ 44 ∷ 102 ∷ 97 ∷ 108 ∷ 115 ∷ 101 ∷ 10 ∷ [];
       verdicts = (0, is-false) ∷ (1, is-false) ∷ [];
       answers = asks 0 false T false ∷ asks 0 false TU false ∷ asks 0 true T true ∷ asks 0 true TU true ∷ [];
     }
@@ -72,12 +72,12 @@ case-2 =
 abbrev file-3 : List ℕ
 file-3 = 110 ∷ 97 ∷ 109 ∷ 101 ∷ 44 ∷ 97 ∷ 10 ∷ 114 ∷ 117 ∷ 108 ∷ 101 ∷ 44 ∷ 97 ∷ 44 ∷ 126 ∷ 97 ∷ 10 ∷ 101 ∷ 110 ∷ 100 ∷ 10 ∷ []
 
--- 3: lists model,1,1,0 / 0,a,undefined,false
+-- 3: lists model,1,1,0,0 / 0,a,undefined,false
 abbrev case-3 : Case
 case-3 =
     record {
       calls = load file-3 ∷ [];
-      listing = 109 ∷ 111 ∷ 100 ∷ 101 ∷ 108 ∷ 44 ∷ 49 ∷ 44 ∷ 49 ∷ 44 ∷ 48 ∷ 10 ∷ 48 ∷ 44 ∷ 97 ∷ 44 ∷ 117 ∷ 110 ∷ 100 ∷ 101 ∷ 102 ∷ 105 ∷ 110 ∷ 101 ∷ 100 ∷ 44 ∷ 102 ∷ 97 ∷ 108 ∷ 115 ∷ 101 ∷ 10 ∷ [];
+      listing = 109 ∷ 111 ∷ 100 ∷ 101 ∷ 108 ∷ 44 ∷ 49 ∷ 44 ∷ 49 ∷ 44 ∷ 48 ∷ 44 ∷ 48 ∷ 10 ∷ 48 ∷ 44 ∷ 97 ∷ 44 ∷ 117 ∷ 110 ∷ 100 ∷ 101 ∷ 102 ∷ 105 ∷ 110 ∷ 101 ∷ 100 ∷ 44 ∷ 102 ∷ 97 ∷ 108 ∷ 115 ∷ 101 ∷ 10 ∷ [];
       verdicts = (0, is-undefined) ∷ (1, is-false) ∷ [];
       answers = asks 0 false T false ∷ asks 0 false TU true ∷ asks 0 true T false ∷ asks 0 true TU true ∷ asks 1 false T false ∷ asks 1 false TU false ∷ asks 1 true T true ∷ asks 1 true TU true ∷ [];
     }
@@ -86,12 +86,12 @@ case-3 =
 abbrev file-4 : List ℕ
 file-4 = 110 ∷ 97 ∷ 109 ∷ 101 ∷ 44 ∷ 97 ∷ 10 ∷ 114 ∷ 117 ∷ 108 ∷ 101 ∷ 44 ∷ 97 ∷ 10 ∷ 114 ∷ 117 ∷ 108 ∷ 101 ∷ 44 ∷ 45 ∷ 97 ∷ 10 ∷ 101 ∷ 110 ∷ 100 ∷ 10 ∷ []
 
--- 4: lists contradiction,1,2,0,a
+-- 4: lists contradiction,1,2,0,1,a
 abbrev case-4 : Case
 case-4 =
     record {
       calls = load file-4 ∷ [];
-      listing = 99 ∷ 111 ∷ 110 ∷ 116 ∷ 114 ∷ 97 ∷ 100 ∷ 105 ∷ 99 ∷ 116 ∷ 105 ∷ 111 ∷ 110 ∷ 44 ∷ 49 ∷ 44 ∷ 50 ∷ 44 ∷ 48 ∷ 44 ∷ 97 ∷ 10 ∷ [];
+      listing = 99 ∷ 111 ∷ 110 ∷ 116 ∷ 114 ∷ 97 ∷ 100 ∷ 105 ∷ 99 ∷ 116 ∷ 105 ∷ 111 ∷ 110 ∷ 44 ∷ 49 ∷ 44 ∷ 50 ∷ 44 ∷ 48 ∷ 44 ∷ 49 ∷ 44 ∷ 97 ∷ 10 ∷ [];
       verdicts = [];
       answers = asks 0 false T true ∷ asks 0 false TU false ∷ asks 0 true T true ∷ asks 0 true TU false ∷ [];
     }
@@ -100,12 +100,12 @@ case-4 =
 abbrev file-5 : List ℕ
 file-5 = 110 ∷ 97 ∷ 109 ∷ 101 ∷ 44 ∷ 97 ∷ 10 ∷ 110 ∷ 97 ∷ 109 ∷ 101 ∷ 44 ∷ 98 ∷ 10 ∷ 114 ∷ 117 ∷ 108 ∷ 101 ∷ 44 ∷ 97 ∷ 44 ∷ 126 ∷ 98 ∷ 10 ∷ 114 ∷ 117 ∷ 108 ∷ 101 ∷ 44 ∷ 98 ∷ 44 ∷ 126 ∷ 97 ∷ 10 ∷ 114 ∷ 117 ∷ 108 ∷ 101 ∷ 44 ∷ 45 ∷ 97 ∷ 10 ∷ 101 ∷ 110 ∷ 100 ∷ 10 ∷ []
 
--- 5: lists model,2,3,0 / 0,a,false,true / 1,b,true,false
+-- 5: lists model,2,3,0,2 / 0,a,false,true / 1,b,true,false
 abbrev case-5 : Case
 case-5 =
     record {
       calls = load file-5 ∷ [];
-      listing = 109 ∷ 111 ∷ 100 ∷ 101 ∷ 108 ∷ 44 ∷ 50 ∷ 44 ∷ 51 ∷ 44 ∷ 48 ∷ 10 ∷ 48 ∷ 44 ∷ 97 ∷ 44 ∷ 102 ∷ 97 ∷ 108 ∷ 115 ∷ 101 ∷ 44 ∷ 116 ∷ 114 ∷ 117 ∷ 101 ∷ 10 ∷ 49 ∷ 44 ∷ 98 ∷ 44 ∷ 116 ∷ 114 ∷ 117 ∷ 101 ∷ 44 ∷ 102 ∷ 97 ∷ 108 ∷ 115 ∷ 101 ∷ 10 ∷ [];
+      listing = 109 ∷ 111 ∷ 100 ∷ 101 ∷ 108 ∷ 44 ∷ 50 ∷ 44 ∷ 51 ∷ 44 ∷ 48 ∷ 44 ∷ 50 ∷ 10 ∷ 48 ∷ 44 ∷ 97 ∷ 44 ∷ 102 ∷ 97 ∷ 108 ∷ 115 ∷ 101 ∷ 44 ∷ 116 ∷ 114 ∷ 117 ∷ 101 ∷ 10 ∷ 49 ∷ 44 ∷ 98 ∷ 44 ∷ 116 ∷ 114 ∷ 117 ∷ 101 ∷ 44 ∷ 102 ∷ 97 ∷ 108 ∷ 115 ∷ 101 ∷ 10 ∷ [];
       verdicts = (0, is-false) ∷ (1, is-true) ∷ (2, is-true) ∷ (3, is-false) ∷ [];
       answers = asks 0 false T false ∷ asks 0 false TU false ∷ asks 0 true T true ∷ asks 0 true TU true ∷ asks 2 false T true ∷ asks 2 false TU true ∷ asks 2 true T false ∷ asks 2 true TU false ∷ [];
     }
@@ -114,12 +114,12 @@ case-5 =
 abbrev file-6 : List ℕ
 file-6 = 110 ∷ 97 ∷ 109 ∷ 101 ∷ 44 ∷ 102 ∷ 10 ∷ 110 ∷ 97 ∷ 109 ∷ 101 ∷ 44 ∷ 115 ∷ 10 ∷ 110 ∷ 97 ∷ 109 ∷ 101 ∷ 44 ∷ 100 ∷ 10 ∷ 114 ∷ 117 ∷ 108 ∷ 101 ∷ 44 ∷ 102 ∷ 44 ∷ 115 ∷ 10 ∷ 114 ∷ 117 ∷ 108 ∷ 101 ∷ 44 ∷ 115 ∷ 44 ∷ 126 ∷ 100 ∷ 10 ∷ 114 ∷ 117 ∷ 108 ∷ 101 ∷ 44 ∷ 100 ∷ 44 ∷ 126 ∷ 100 ∷ 10 ∷ 114 ∷ 117 ∷ 108 ∷ 101 ∷ 44 ∷ 45 ∷ 115 ∷ 10 ∷ 101 ∷ 110 ∷ 100 ∷ 10 ∷ []
 
--- 6: lists model,3,4,0 / 0,f,false,false / 1,s,false,true / 2,d,undefined,false
+-- 6: lists model,3,4,0,1 / 0,f,false,false / 1,s,false,true / 2,d,undefined,false
 abbrev case-6 : Case
 case-6 =
     record {
       calls = load file-6 ∷ [];
-      listing = 109 ∷ 111 ∷ 100 ∷ 101 ∷ 108 ∷ 44 ∷ 51 ∷ 44 ∷ 52 ∷ 44 ∷ 48 ∷ 10 ∷ 48 ∷ 44 ∷ 102 ∷ 44 ∷ 102 ∷ 97 ∷ 108 ∷ 115 ∷ 101 ∷ 44 ∷ 102 ∷ 97 ∷ 108 ∷ 115 ∷ 101 ∷ 10 ∷ 49 ∷ 44 ∷ 115 ∷ 44 ∷ 102 ∷ 97 ∷ 108 ∷ 115 ∷ 101 ∷ 44 ∷ 116 ∷ 114 ∷ 117 ∷ 101 ∷ 10 ∷ 50 ∷ 44 ∷ 100 ∷ 44 ∷ 117 ∷ 110 ∷ 100 ∷ 101 ∷ 102 ∷ 105 ∷ 110 ∷ 101 ∷ 100 ∷ 44 ∷ 102 ∷ 97 ∷ 108 ∷ 115 ∷ 101 ∷ 10 ∷ [];
+      listing = 109 ∷ 111 ∷ 100 ∷ 101 ∷ 108 ∷ 44 ∷ 51 ∷ 44 ∷ 52 ∷ 44 ∷ 48 ∷ 44 ∷ 49 ∷ 10 ∷ 48 ∷ 44 ∷ 102 ∷ 44 ∷ 102 ∷ 97 ∷ 108 ∷ 115 ∷ 101 ∷ 44 ∷ 102 ∷ 97 ∷ 108 ∷ 115 ∷ 101 ∷ 10 ∷ 49 ∷ 44 ∷ 115 ∷ 44 ∷ 102 ∷ 97 ∷ 108 ∷ 115 ∷ 101 ∷ 44 ∷ 116 ∷ 114 ∷ 117 ∷ 101 ∷ 10 ∷ 50 ∷ 44 ∷ 100 ∷ 44 ∷ 117 ∷ 110 ∷ 100 ∷ 101 ∷ 102 ∷ 105 ∷ 110 ∷ 101 ∷ 100 ∷ 44 ∷ 102 ∷ 97 ∷ 108 ∷ 115 ∷ 101 ∷ 10 ∷ [];
       verdicts = (0, is-false) ∷ (1, is-false) ∷ (2, is-false) ∷ (3, is-true) ∷ (4, is-undefined) ∷ (5, is-false) ∷ [];
       answers = asks 0 false T false ∷ asks 0 false TU false ∷ asks 0 true T true ∷ asks 0 true TU true ∷ asks 2 false T false ∷ asks 2 false TU false ∷ asks 2 true T true ∷ asks 2 true TU true ∷ asks 4 false T false ∷ asks 4 false TU true ∷ asks 4 true T false ∷ asks 4 true TU true ∷ [];
     }
@@ -128,12 +128,12 @@ case-6 =
 abbrev file-7 : List ℕ
 file-7 = 110 ∷ 97 ∷ 109 ∷ 101 ∷ 44 ∷ 97 ∷ 10 ∷ 110 ∷ 97 ∷ 109 ∷ 101 ∷ 44 ∷ 98 ∷ 10 ∷ 114 ∷ 117 ∷ 108 ∷ 101 ∷ 44 ∷ 97 ∷ 44 ∷ 126 ∷ 98 ∷ 10 ∷ 101 ∷ 110 ∷ 100 ∷ 10 ∷ []
 
--- 7: lists model,2,1,0 / 0,a,true,false / 1,b,false,false
+-- 7: lists model,2,1,0,1 / 0,a,true,false / 1,b,false,false
 abbrev case-7 : Case
 case-7 =
     record {
       calls = load file-7 ∷ [];
-      listing = 109 ∷ 111 ∷ 100 ∷ 101 ∷ 108 ∷ 44 ∷ 50 ∷ 44 ∷ 49 ∷ 44 ∷ 48 ∷ 10 ∷ 48 ∷ 44 ∷ 97 ∷ 44 ∷ 116 ∷ 114 ∷ 117 ∷ 101 ∷ 44 ∷ 102 ∷ 97 ∷ 108 ∷ 115 ∷ 101 ∷ 10 ∷ 49 ∷ 44 ∷ 98 ∷ 44 ∷ 102 ∷ 97 ∷ 108 ∷ 115 ∷ 101 ∷ 44 ∷ 102 ∷ 97 ∷ 108 ∷ 115 ∷ 101 ∷ 10 ∷ [];
+      listing = 109 ∷ 111 ∷ 100 ∷ 101 ∷ 108 ∷ 44 ∷ 50 ∷ 44 ∷ 49 ∷ 44 ∷ 48 ∷ 44 ∷ 49 ∷ 10 ∷ 48 ∷ 44 ∷ 97 ∷ 44 ∷ 116 ∷ 114 ∷ 117 ∷ 101 ∷ 44 ∷ 102 ∷ 97 ∷ 108 ∷ 115 ∷ 101 ∷ 10 ∷ 49 ∷ 44 ∷ 98 ∷ 44 ∷ 102 ∷ 97 ∷ 108 ∷ 115 ∷ 101 ∷ 44 ∷ 102 ∷ 97 ∷ 108 ∷ 115 ∷ 101 ∷ 10 ∷ [];
       verdicts = (0, is-true) ∷ (1, is-false) ∷ (2, is-false) ∷ (3, is-false) ∷ [];
       answers = asks 0 false T true ∷ asks 0 false TU true ∷ asks 0 true T false ∷ asks 0 true TU false ∷ [];
     }
@@ -142,12 +142,12 @@ case-7 =
 abbrev file-8 : List ℕ
 file-8 = 110 ∷ 97 ∷ 109 ∷ 101 ∷ 44 ∷ 97 ∷ 10 ∷ 114 ∷ 117 ∷ 108 ∷ 101 ∷ 44 ∷ 45 ∷ 97 ∷ 44 ∷ 126 ∷ 97 ∷ 10 ∷ 101 ∷ 110 ∷ 100 ∷ 10 ∷ []
 
--- 8: lists model,1,1,0 / 0,a,false,true
+-- 8: lists model,1,1,0,1 / 0,a,false,true
 abbrev case-8 : Case
 case-8 =
     record {
       calls = load file-8 ∷ [];
-      listing = 109 ∷ 111 ∷ 100 ∷ 101 ∷ 108 ∷ 44 ∷ 49 ∷ 44 ∷ 49 ∷ 44 ∷ 48 ∷ 10 ∷ 48 ∷ 44 ∷ 97 ∷ 44 ∷ 102 ∷ 97 ∷ 108 ∷ 115 ∷ 101 ∷ 44 ∷ 116 ∷ 114 ∷ 117 ∷ 101 ∷ 10 ∷ [];
+      listing = 109 ∷ 111 ∷ 100 ∷ 101 ∷ 108 ∷ 44 ∷ 49 ∷ 44 ∷ 49 ∷ 44 ∷ 48 ∷ 44 ∷ 49 ∷ 10 ∷ 48 ∷ 44 ∷ 97 ∷ 44 ∷ 102 ∷ 97 ∷ 108 ∷ 115 ∷ 101 ∷ 44 ∷ 116 ∷ 114 ∷ 117 ∷ 101 ∷ 10 ∷ [];
       verdicts = (0, is-false) ∷ (1, is-true) ∷ [];
       answers = asks 0 false T false ∷ asks 0 false TU false ∷ asks 0 true T true ∷ asks 0 true TU true ∷ asks 1 false T true ∷ asks 1 false TU true ∷ asks 1 true T false ∷ asks 1 true TU false ∷ [];
     }
@@ -156,12 +156,12 @@ case-8 =
 abbrev file-9 : List ℕ
 file-9 = 110 ∷ 97 ∷ 109 ∷ 101 ∷ 44 ∷ 97 ∷ 10 ∷ 114 ∷ 117 ∷ 108 ∷ 101 ∷ 44 ∷ 97 ∷ 44 ∷ 126 ∷ 45 ∷ 97 ∷ 10 ∷ 114 ∷ 117 ∷ 108 ∷ 101 ∷ 44 ∷ 45 ∷ 97 ∷ 44 ∷ 126 ∷ 97 ∷ 10 ∷ 101 ∷ 110 ∷ 100 ∷ 10 ∷ []
 
--- 9: lists model,1,2,0 / 0,a,undefined,undefined
+-- 9: lists model,1,2,0,0 / 0,a,undefined,undefined
 abbrev case-9 : Case
 case-9 =
     record {
       calls = load file-9 ∷ [];
-      listing = 109 ∷ 111 ∷ 100 ∷ 101 ∷ 108 ∷ 44 ∷ 49 ∷ 44 ∷ 50 ∷ 44 ∷ 48 ∷ 10 ∷ 48 ∷ 44 ∷ 97 ∷ 44 ∷ 117 ∷ 110 ∷ 100 ∷ 101 ∷ 102 ∷ 105 ∷ 110 ∷ 101 ∷ 100 ∷ 44 ∷ 117 ∷ 110 ∷ 100 ∷ 101 ∷ 102 ∷ 105 ∷ 110 ∷ 101 ∷ 100 ∷ 10 ∷ [];
+      listing = 109 ∷ 111 ∷ 100 ∷ 101 ∷ 108 ∷ 44 ∷ 49 ∷ 44 ∷ 50 ∷ 44 ∷ 48 ∷ 44 ∷ 48 ∷ 10 ∷ 48 ∷ 44 ∷ 97 ∷ 44 ∷ 117 ∷ 110 ∷ 100 ∷ 101 ∷ 102 ∷ 105 ∷ 110 ∷ 101 ∷ 100 ∷ 44 ∷ 117 ∷ 110 ∷ 100 ∷ 101 ∷ 102 ∷ 105 ∷ 110 ∷ 101 ∷ 100 ∷ 10 ∷ [];
       verdicts = (0, is-undefined) ∷ (1, is-undefined) ∷ [];
       answers = asks 0 false T false ∷ asks 0 false TU true ∷ asks 0 true T false ∷ asks 0 true TU true ∷ asks 1 false T false ∷ asks 1 false TU true ∷ asks 1 true T false ∷ asks 1 true TU true ∷ [];
     }
@@ -170,12 +170,12 @@ case-9 =
 abbrev file-10 : List ℕ
 file-10 = 101 ∷ 110 ∷ 100 ∷ 10 ∷ []
 
--- 10: lists model,0,0,0
+-- 10: lists model,0,0,0,0
 abbrev case-10 : Case
 case-10 =
     record {
       calls = load file-10 ∷ [];
-      listing = 109 ∷ 111 ∷ 100 ∷ 101 ∷ 108 ∷ 44 ∷ 48 ∷ 44 ∷ 48 ∷ 44 ∷ 48 ∷ 10 ∷ [];
+      listing = 109 ∷ 111 ∷ 100 ∷ 101 ∷ 108 ∷ 44 ∷ 48 ∷ 44 ∷ 48 ∷ 44 ∷ 48 ∷ 44 ∷ 48 ∷ 10 ∷ [];
       verdicts = [];
       answers = [];
     }
@@ -190,22 +190,22 @@ case-no-bytes =
       answers = [];
     }
 
--- 11, put in: lists contradiction,2,3,1,a
+-- 11, put in: lists contradiction,2,3,1,2,a
 abbrev case-11-put-in : Case
 case-11-put-in =
     record {
       calls = load file-5 ∷ change (PutIn 0) ∷ [];
-      listing = 99 ∷ 111 ∷ 110 ∷ 116 ∷ 114 ∷ 97 ∷ 100 ∷ 105 ∷ 99 ∷ 116 ∷ 105 ∷ 111 ∷ 110 ∷ 44 ∷ 50 ∷ 44 ∷ 51 ∷ 44 ∷ 49 ∷ 44 ∷ 97 ∷ 10 ∷ [];
+      listing = 99 ∷ 111 ∷ 110 ∷ 116 ∷ 114 ∷ 97 ∷ 100 ∷ 105 ∷ 99 ∷ 116 ∷ 105 ∷ 111 ∷ 110 ∷ 44 ∷ 50 ∷ 44 ∷ 51 ∷ 44 ∷ 49 ∷ 44 ∷ 50 ∷ 44 ∷ 97 ∷ 10 ∷ [];
       verdicts = [];
       answers = asks 0 false T true ∷ [];
     }
 
--- 11, taken out: lists model,2,3,0 / 0,a,false,true / 1,b,true,false
+-- 11, taken out: lists model,2,3,0,2 / 0,a,false,true / 1,b,true,false
 abbrev case-11-taken-out : Case
 case-11-taken-out =
     record {
       calls = load file-5 ∷ change (PutIn 0) ∷ change (TakeOut 0) ∷ [];
-      listing = 109 ∷ 111 ∷ 100 ∷ 101 ∷ 108 ∷ 44 ∷ 50 ∷ 44 ∷ 51 ∷ 44 ∷ 48 ∷ 10 ∷ 48 ∷ 44 ∷ 97 ∷ 44 ∷ 102 ∷ 97 ∷ 108 ∷ 115 ∷ 101 ∷ 44 ∷ 116 ∷ 114 ∷ 117 ∷ 101 ∷ 10 ∷ 49 ∷ 44 ∷ 98 ∷ 44 ∷ 116 ∷ 114 ∷ 117 ∷ 101 ∷ 44 ∷ 102 ∷ 97 ∷ 108 ∷ 115 ∷ 101 ∷ 10 ∷ [];
+      listing = 109 ∷ 111 ∷ 100 ∷ 101 ∷ 108 ∷ 44 ∷ 50 ∷ 44 ∷ 51 ∷ 44 ∷ 48 ∷ 44 ∷ 50 ∷ 10 ∷ 48 ∷ 44 ∷ 97 ∷ 44 ∷ 102 ∷ 97 ∷ 108 ∷ 115 ∷ 101 ∷ 44 ∷ 116 ∷ 114 ∷ 117 ∷ 101 ∷ 10 ∷ 49 ∷ 44 ∷ 98 ∷ 44 ∷ 116 ∷ 114 ∷ 117 ∷ 101 ∷ 44 ∷ 102 ∷ 97 ∷ 108 ∷ 115 ∷ 101 ∷ 10 ∷ [];
       verdicts = (0, is-false) ∷ (1, is-true) ∷ (2, is-true) ∷ (3, is-false) ∷ [];
       answers = asks 0 false T false ∷ asks 0 false TU false ∷ asks 0 true T true ∷ asks 0 true TU true ∷ asks 2 false T true ∷ asks 2 false TU true ∷ asks 2 true T false ∷ asks 2 true TU false ∷ [];
     }
@@ -214,16 +214,30 @@ case-11-taken-out =
 abbrev file-capitals : List ℕ
 file-capitals = 110 ∷ 97 ∷ 109 ∷ 101 ∷ 44 ∷ 66 ∷ 114 ∷ 97 ∷ 107 ∷ 101 ∷ 95 ∷ 72 ∷ 101 ∷ 108 ∷ 100 ∷ 10 ∷ 110 ∷ 97 ∷ 109 ∷ 101 ∷ 44 ∷ 103 ∷ 101 ∷ 97 ∷ 114 ∷ 95 ∷ 50 ∷ 10 ∷ 114 ∷ 117 ∷ 108 ∷ 101 ∷ 44 ∷ 71 ∷ 101 ∷ 97 ∷ 114 ∷ 95 ∷ 50 ∷ 44 ∷ 126 ∷ 66 ∷ 82 ∷ 65 ∷ 75 ∷ 69 ∷ 95 ∷ 72 ∷ 69 ∷ 76 ∷ 68 ∷ 10 ∷ 101 ∷ 110 ∷ 100 ∷ 10 ∷ []
 
--- capitals: lists model,2,1,0 / 0,Brake_Held,false,false / 1,gear_2,true,false
+-- capitals: lists model,2,1,0,1 / 0,Brake_Held,false,false / 1,gear_2,true,false
 abbrev case-capitals : Case
 case-capitals =
     record {
       calls = load file-capitals ∷ [];
-      listing = 109 ∷ 111 ∷ 100 ∷ 101 ∷ 108 ∷ 44 ∷ 50 ∷ 44 ∷ 49 ∷ 44 ∷ 48 ∷ 10 ∷ 48 ∷ 44 ∷ 66 ∷ 114 ∷ 97 ∷ 107 ∷ 101 ∷ 95 ∷ 72 ∷ 101 ∷ 108 ∷ 100 ∷ 44 ∷ 102 ∷ 97 ∷ 108 ∷ 115 ∷ 101 ∷ 44 ∷ 102 ∷ 97 ∷ 108 ∷ 115 ∷ 101 ∷ 10 ∷ 49 ∷ 44 ∷ 103 ∷ 101 ∷ 97 ∷ 114 ∷ 95 ∷ 50 ∷ 44 ∷ 116 ∷ 114 ∷ 117 ∷ 101 ∷ 44 ∷ 102 ∷ 97 ∷ 108 ∷ 115 ∷ 101 ∷ 10 ∷ [];
+      listing = 109 ∷ 111 ∷ 100 ∷ 101 ∷ 108 ∷ 44 ∷ 50 ∷ 44 ∷ 49 ∷ 44 ∷ 48 ∷ 44 ∷ 49 ∷ 10 ∷ 48 ∷ 44 ∷ 66 ∷ 114 ∷ 97 ∷ 107 ∷ 101 ∷ 95 ∷ 72 ∷ 101 ∷ 108 ∷ 100 ∷ 44 ∷ 102 ∷ 97 ∷ 108 ∷ 115 ∷ 101 ∷ 44 ∷ 102 ∷ 97 ∷ 108 ∷ 115 ∷ 101 ∷ 10 ∷ 49 ∷ 44 ∷ 103 ∷ 101 ∷ 97 ∷ 114 ∷ 95 ∷ 50 ∷ 44 ∷ 116 ∷ 114 ∷ 117 ∷ 101 ∷ 44 ∷ 102 ∷ 97 ∷ 108 ∷ 115 ∷ 101 ∷ 10 ∷ [];
       verdicts = (0, is-false) ∷ (1, is-false) ∷ (2, is-true) ∷ (3, is-false) ∷ [];
       answers = asks 0 true T true ∷ asks 2 false T true ∷ asks 2 true TU false ∷ [];
     }
 
+-- name,a / name,b / rule,a / rule,b,~-a / rule,-a,~-b / rule,-b,~a / rule,b,~-b / rule,-a,~a / rule,-b,~b / end
+abbrev file-rounds : List ℕ
+file-rounds = 110 ∷ 97 ∷ 109 ∷ 101 ∷ 44 ∷ 97 ∷ 10 ∷ 110 ∷ 97 ∷ 109 ∷ 101 ∷ 44 ∷ 98 ∷ 10 ∷ 114 ∷ 117 ∷ 108 ∷ 101 ∷ 44 ∷ 97 ∷ 10 ∷ 114 ∷ 117 ∷ 108 ∷ 101 ∷ 44 ∷ 98 ∷ 44 ∷ 126 ∷ 45 ∷ 97 ∷ 10 ∷ 114 ∷ 117 ∷ 108 ∷ 101 ∷ 44 ∷ 45 ∷ 97 ∷ 44 ∷ 126 ∷ 45 ∷ 98 ∷ 10 ∷ 114 ∷ 117 ∷ 108 ∷ 101 ∷ 44 ∷ 45 ∷ 98 ∷ 44 ∷ 126 ∷ 97 ∷ 10 ∷ 114 ∷ 117 ∷ 108 ∷ 101 ∷ 44 ∷ 98 ∷ 44 ∷ 126 ∷ 45 ∷ 98 ∷ 10 ∷ 114 ∷ 117 ∷ 108 ∷ 101 ∷ 44 ∷ 45 ∷ 97 ∷ 44 ∷ 126 ∷ 97 ∷ 10 ∷ 114 ∷ 117 ∷ 108 ∷ 101 ∷ 44 ∷ 45 ∷ 98 ∷ 44 ∷ 126 ∷ 98 ∷ 10 ∷ 101 ∷ 110 ∷ 100 ∷ 10 ∷ []
+
+-- as many rounds as distinct heads: lists contradiction,2,7,0,4,a
+abbrev case-rounds : Case
+case-rounds =
+    record {
+      calls = load file-rounds ∷ [];
+      listing = 99 ∷ 111 ∷ 110 ∷ 116 ∷ 114 ∷ 97 ∷ 100 ∷ 105 ∷ 99 ∷ 116 ∷ 105 ∷ 111 ∷ 110 ∷ 44 ∷ 50 ∷ 44 ∷ 55 ∷ 44 ∷ 48 ∷ 44 ∷ 52 ∷ 44 ∷ 97 ∷ 10 ∷ [];
+      verdicts = [];
+      answers = [];
+    }
+
 abbrev pub cases : List Case
 cases =
-    case-1 ∷ case-2 ∷ case-3 ∷ case-4 ∷ case-5 ∷ case-6 ∷ case-7 ∷ case-8 ∷ case-9 ∷ case-10 ∷ case-no-bytes ∷ case-11-put-in ∷ case-11-taken-out ∷ case-capitals ∷ []
+    case-1 ∷ case-2 ∷ case-3 ∷ case-4 ∷ case-5 ∷ case-6 ∷ case-7 ∷ case-8 ∷ case-9 ∷ case-10 ∷ case-no-bytes ∷ case-11-put-in ∷ case-11-taken-out ∷ case-capitals ∷ case-rounds ∷ []

@@ -3,3 +3,4 @@ pub mod Calls
 pub mod Runs
 pub mod Cases
 pub mod Spelling
+pub mod Rounds

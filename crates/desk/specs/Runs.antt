@@ -141,11 +141,11 @@ pub record VerdictDue (d : State) (A : ℕ) (said : Said wfsx.Verdict) : Type 0 
   pub refused-24 : (said ≡ refused 24) ↔ ContradictoryOver (inBook (d .book)) d
   pub given : (ContradictoryOver (inBook (d .book)) d → ⊥) → (v : wfsx.Verdict) × (said ≡ gives v) × ModelVerdict (inBook (d .book)) (programIn d) A v
 
--- the model call answers M, N and whether the lesson is contradictory
+-- the model call answers M, N, how many rounds M takes (document 02, A.10) and whether the lesson is contradictory
 pub record ModelDue (d : State) (r : ModelReply) : Type 0 where
   pub contradictory : (modelSaid (r .answer) ≡ gives true) ↔ ContradictoryOver (inBook (d .book)) d
   pub consistent : (modelSaid (r .answer) ≡ gives false) ↔ (ContradictoryOver (inBook (d .book)) d → ⊥)
-  pub sets : ModelOf (programIn d) (r .model)
+  pub model-is : ModelOf (programIn d) (r .model)
 
 -- the listing call answers the listing's length and writes the listing, byte for byte; the bytes after it stay
 pub record ListingDue (d : State) (buffer : List ℕ) (said : Said ℕ) (after : List ℕ) : Type 0 where

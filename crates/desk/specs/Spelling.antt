@@ -31,5 +31,5 @@ pub record Spelled (cs : List Call) (names : List (List ℕ)) (rules : List Rule
   pub read-as : readFile EitherCase file ≡ accepted names rules
   -- No name has both literals in M: line 0 of the listing is the header, and field 1 of line k + 1 is name k as the file declares it.
   pub in-its-line : clashIn (M (programIn (left cs))) ≡ None → (k : ℕ) → k < length names → fieldAt (listingIn (left cs)) (k + 1) 1 ≡ declaringField file k
-  -- Name n is the lowest-numbered with both literals in M: field 4 of the header is name n as the file declares it.
-  pub in-the-header : (n : ℕ) → clashIn (M (programIn (left cs))) ≡ Name n → (n < length names) × (fieldAt (listingIn (left cs)) 0 4 ≡ declaringField file n)
+  -- Name n is the lowest-numbered with both literals in M: field 5 of the header is name n as the file declares it.
+  pub in-the-header : (n : ℕ) → clashIn (M (programIn (left cs))) ≡ Name n → (n < length names) × (fieldAt (listingIn (left cs)) 0 5 ≡ declaringField file n)

@@ -1,21 +1,27 @@
 -- Γ and Γs by passes. From the start on, every set that the passes reach lies in Γ; where a pass adds nothing the set is closed, so Γ lies in it.
--- M by rounds of the two: each set reached is an I(k), and the first that ΓΓs keeps is M.
+-- M by rounds of the two: each set reached is an I(k), and the first that ΓΓs keeps is M. Each round before takes in a literal, so they can be counted.
 use mathlib.Core.Path.{_≡_, sym, _∙_, ap}
 use mathlib.Core.Logic.{_⊎_, inl, inr}
 use mathlib.Core.Bool.{Bool, true, false, not, _&&_, _||_, and-true, and-false, or-assoc}
 use mathlib.Core.List.{List}
-use Prim.Native.Nat.{ℕ, suc, _<_}
+use Prim.Native.Nat.{ℕ, suc, _+_, _≤_, _<_}
+use native.Mathlib.Nat.{le-of-eq}
+use native.Mathlib.Numerals.{add-one}
+use native.Mathlib.Decide.{ℕ-discrete}
+use native.Mathlib.Omega.{arith}
 use borrow.Author.Tests.{not-true}
 use Rattle.wfsx.specs.Sets.{Set, _∈_, _⊆_, ∅, _∪_, _∖_}
 use Rattle.wfsx.specs.Program.{complements, Rule, Program, withoutHeads}
 use Rattle.wfsx.specs.Model.{holds, supported, Γ, Γs, I, M, N}
+use Rattle.wfsx.specs.Rounds.{Still, rounds}
 use Rattle.truth.proofs.Truth.{not-intro, and-l, and-r, and-intro, or-elim, or-l, or-r}
 use Rattle.wfsx.proofs.Sets.{⊆-antisym}
 use Rattle.wfsx.proofs.Parts.{supported-without, Γ-with, Γ-same, Γs-without}
 use Rattle.wfsx.proofs.Facts.{supported-facts}
-use Rattle.wfsx.proofs.Operators.{Γ-fixed, Γ-inside, I-grows, I⊆M, M-least, N-is, I-none, I-next}
+use Rattle.wfsx.proofs.Operators.{Γ-fixed, Γ-inside, I-grows, N-is, I-none, I-next}
+use Rattle.wfsx.proofs.Rounds.{rounds-only, M-from-rounds}
 use Rattle.litset.specs.Words.{capacity}
-use Rattle.litset.proofs.Room.{free, free-falls}
+use Rattle.litset.proofs.Room.{free, free-most, free-falls}
 use Rattle.book.specs.Book.{program}
 use Rattle.fixpoint.specs.Pass.{pass}
 use Rattle.fixpoint.proofs.Pass.{Full, pass-grows, pass-inside, pass-still}
@@ -105,31 +111,52 @@ module _ (rules : List Rule) (F : Set) (below : (A : ℕ) → A ∈ F → A < ca
 -- ---- M and N
 
 module _ (P : Program) where
-  -- X is one of the I(k)
-  pub record Round (X : Set) : Type 0 where
-    pub k : ℕ
+  -- X is I(k), and no round before added nothing; each took in a literal of those that a set has room for
+  pub record Round (k : ℕ) (X : Set) : Type 0 where
     pub is : X ≡ I P k
+    pub first : (j : ℕ) → Still P j → k ≤ j
+    pub within : k + free X ≤ capacity
 
-  pub round-start : {X : Set} → X ≡ ∅ → Round X
-  round-start e = record { k = 0; is = e ∙ sym (I-none P) }
+  pub round-start : {X : Set} → X ≡ ∅ → Round 0 X
+  round-start {X} e = record { is = e ∙ sym (I-none P); first = λ j s. omega arith; within = omega (arith, free-most X) }
 
-  -- U is Γs(X): X lies in Γ(U)
-  pub round-inside : {X U : Set} → Round X → U ≡ Γs P X → X ⊆ Γ P U
-  round-inside {X} {U} g u A a = ap (λ (S : Set). Γ P S A) (u ∙ ap (Γs P) (g .is)) ∙ ap (λ (S : Set). S A) (sym (I-next P (g .k))) ∙ I-grows P (g .k) A (rw (g .is) at a)
+  module _ {k : ℕ} {X U : Set} (g : Round k X) (u : U ≡ Γs P X) where
+    next-is : Γ P U ≡ I P (suc k)
+    next-is = ap (Γ P) (u ∙ ap (Γs P) (g .is)) ∙ sym (I-next P k)
 
-  -- and Y is Γ(U)
-  module _ {X U Y : Set} (g : Round X) (u : U ≡ Γs P X) (y : Y ≡ Γ P U) where
-    next : Y ≡ I P (suc (g .k))
-    next = y ∙ ap (Γ P) (u ∙ ap (Γs P) (g .is)) ∙ sym (I-next P (g .k))
+    -- U is Γs(X): X lies in Γ(U)
+    pub round-inside : X ⊆ Γ P U
+    round-inside A a = rw next-is (I-grows P k A (rw (g .is) at a))
 
-    pub round-more : Round Y
-    round-more = record { k = suc (g .k); is = next }
+    -- and Y is Γ(U)
+    module _ {Y : Set} (y : Y ≡ Γ P U) where
+      next : Y ≡ I P (suc k)
+      next = y ∙ next-is
 
-    pub round-falls : ((A : ℕ) → A ∈ Y → A < capacity) → (X ≡ Y → ⊥) → free Y < free X
-    round-falls small ne = free-falls X Y (λ A a. rw next (I-grows P (g .k) A (rw (g .is) at a))) small ne
+      module _ (small : (A : ℕ) → A ∈ Y → A < capacity) (ne : X ≡ Y → ⊥) where
+        pub round-falls : free Y < free X
+        round-falls = free-falls X Y (λ A a. rw y (round-inside A a)) small ne
 
-    pub round-end : X ≡ Y → (Y ≡ M P) × (U ≡ N P)
-    round-end e = (sym e ∙ same, u ∙ ap (Γs P) same ∙ sym (N-is P))
-      where
-        same : X ≡ M P
-        same = ⊆-antisym (λ A a. I⊆M P (g .k) A (rw (g .is) at a)) (M-least P X (λ A a. rw e (rw (y, u) a)))
+        pub round-more : Round (k + 1) Y
+        round-more =
+            record {
+              is = next ∙ ap (I P) (sym (add-one k));
+              first = later;
+              within = let falls = round-falls in let before = g .within in omega arith;
+            }
+          where
+            later : (j : ℕ) → Still P j → k + 1 ≤ j
+            later j s = go (ℕ-discrete j k)
+              where
+                go : Dec (j ≡ k) → k + 1 ≤ j
+                go (yes e) = absurd (ne (g .is ∙ rw e at s ∙ sym next))
+                go (no e) = omega (arith, g .first j s)
+
+      pub round-end : X ≡ Y → (Y ≡ M P) × (U ≡ N P) × (k ≡ rounds P)
+      round-end e = (sym e ∙ same, u ∙ ap (Γs P) same ∙ sym (N-is P), least)
+        where
+          least : k ≡ rounds P
+          least = rounds-only P k (record { still = sym (g .is) ∙ e ∙ next; least = g .first })
+
+          same : X ≡ M P
+          same = g .is ∙ M-from-rounds P k (le-of-eq (sym least))

@@ -8,6 +8,7 @@ use borrow.Author.Tests.{ltb-true, lt-ltb}
 use Rattle.wfsx.specs.Sets.{Set, _∈_}
 use Rattle.wfsx.specs.Program.{Program}
 use Rattle.wfsx.specs.Model.{M, N, Heads⊆, Contradictory, verdict}
+use Rattle.wfsx.specs.Rounds.{rounds}
 use Rattle.wfsx.proofs.Contradiction.{heads-in, contradiction}
 use Rattle.wfsx.proofs.Operators.{M-head, Γ-head, Γs⊆Γ, N-is, verdict-is}
 use Rattle.litset.specs.Words.{capacity, room, setOf, LowestBoth, ClashOf, clashIn}
@@ -37,7 +38,7 @@ module _ (P : Program) (small : Heads⊆ P room) where
   model-exists =
       let T = words-for (M P) (λ A h. lt-ltb A capacity (M-small A h)) in
       let U = words-for (N P) (λ A h. lt-ltb A capacity (N-small A h)) in
-      (record { truths = T .0; nonfalse = U .0 }, record { truths = T .2; nonfalse = U .2 })
+      (record { truths = T .0; nonfalse = U .0; rounds = rounds P }, record { truths = T .2; nonfalse = U .2; rounds = refl })
 
   module _ (base : Set) (over : Heads⊆ P base) where
     -- M has no clash exactly where the program has a partial stable model
@@ -63,5 +64,5 @@ verdict-same P T U t u A = ap₂ (λ (T U : Set). verdictIn T U A) t u ∙ sym (
 
 -- a program has one model: its sets settle their words (`set-settles`)
 pub model-settles : (P : Program) (m n : Model) → ModelOf P m → ModelOf P n
-    → (setOf (m .truths .words) ≡ setOf (n .truths .words)) × (setOf (m .nonfalse .words) ≡ setOf (n .nonfalse .words))
-model-settles P m n is other = (is .truths ∙ sym (other .truths), is .nonfalse ∙ sym (other .nonfalse))
+    → (setOf (m .truths .words) ≡ setOf (n .truths .words)) × (setOf (m .nonfalse .words) ≡ setOf (n .nonfalse .words)) × (m .rounds ≡ n .rounds)
+model-settles P m n is other = (is .truths ∙ sym (other .truths), is .nonfalse ∙ sym (other .nonfalse), is .rounds ∙ sym (other .rounds))

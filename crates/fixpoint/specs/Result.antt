@@ -1,4 +1,4 @@
--- What a model and a verdict are (document 01, "From rules to a model"; 001, definition 2).
+-- What a model and a verdict are (document 01, "From rules to a model"; 001, definition 2; document 02, A.10).
 use mathlib.Core.Path.{_≡_}
 use mathlib.Core.Bool.{cond}
 use Prim.Native.Nat.{ℕ}
@@ -6,15 +6,17 @@ use Rattle.wfsx.specs.Sets.{Set}
 use Rattle.wfsx.specs.Program.{Program}
 use Rattle.wfsx.specs.Model.{M, N, is-true, is-false, is-undefined}
 use Rattle.wfsx.specs.Model as wfsx
+use Rattle.wfsx.specs.Rounds.{rounds}
 use Rattle.litset.specs.Words.{setOf}
 use Rattle.fixpoint.specs.declared.Verdict.{Verdict}
 use Rattle.fixpoint.specs.declared.Verdict.the-variants.{True, False, Undefined}
 use Rattle.fixpoint.specs.declared.Model.{Model}
 
--- the model of P: M and N
+-- the model of P: M, N, and how many rounds M takes
 pub record ModelOf (P : Program) (m : Model) : Type 0 where
   pub truths : setOf (m .truths .words) ≡ M P
   pub nonfalse : setOf (m .nonfalse .words) ≡ N P
+  pub rounds : m .rounds ≡ rounds P
 
 -- the words of a verdict
 abbrev pub verdictIs : Verdict → wfsx.Verdict

@@ -18,11 +18,12 @@ pub enum Verdict {
     Undefined,
 }
 
-// M and N. The name that makes a program contradictory is read from M.
+// M, N, and the least k with I(k) = I(k + 1). The name that makes a program contradictory is read from M.
 #[repr(C)]
 pub struct Model {
     pub truths: LitSet,
     pub nonfalse: LitSet,
+    pub rounds: usize,
 }
 
 // Whether an entry holds over d and s.
@@ -141,7 +142,7 @@ fn gamma_seminormal<'a>(
     least_closed(heads, starts, entries, count, start, shut, s)
 }
 
-// M and N of the first rules in the tables and the facts: I(k) until ΓΓs gives the same set.
+// The model of the first rules in the tables and the facts: I(k) until ΓΓs gives the same set. The round that finds this out is not counted.
 fn settle<'a>(
     heads: &'a [u16],
     starts: &'a [u16],
@@ -153,6 +154,7 @@ fn settle<'a>(
         (setOf (facts .words))) r ⌝ }
 {
     let mut x = litset::empty();
+    let mut rounds: usize = 0;
     loop {
         let n = gamma_seminormal(heads, starts, entries, count, facts, x);
         let m = gamma_above(heads, starts, entries, count, facts, n, x);
@@ -160,9 +162,11 @@ fn settle<'a>(
             return Model {
                 truths: m,
                 nonfalse: n,
+                rounds,
             };
         }
         x = m;
+        rounds += 1;
     }
 }
 

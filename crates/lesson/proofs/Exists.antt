@@ -16,7 +16,7 @@ use Rattle.book.specs.declared.Book.{Book}
 use Rattle.book.proofs.Heads.{program-heads}
 use Rattle.fixpoint.specs.declared.Verdict.the-variants.{True, False, Undefined}
 use Rattle.fixpoint.proofs.Published.{model-exists}
-use Rattle.lesson.specs.State.{BookState, noneLoaded, Said, gives, refused, searchSays, verdictSays, modelSays, setGiven, listingSays, bufferAfter}
+use Rattle.lesson.specs.State.{BookState, noneLoaded, Said, gives, refused, searchSays, verdictSays, modelSays, whereLoaded, listingSays, bufferAfter}
 use Rattle.lesson.specs.Calls.{shelfOf, meaningOf, truthsOf, nonfalseOf, Begins, verdictSaid, GivesVerdict, searchSaid, Searches, modelSaid, GivesModel, listingSaid, bytesOf, Lists}
 use Rattle.lesson.specs.declared.Shelf.{Shelf}
 use Rattle.lesson.specs.declared.Lesson.{Lesson}
@@ -57,8 +57,8 @@ length-for : (said : Said ℕ) → (a : ListingAnswer) × (listingSaid a ≡ sai
 length-for (gives n) = (listing.Length n, refl)
 length-for (refused n) = (listing.Refused n, refl)
 
-set-for : (b : BookState) (t : LitSet) → (u : LitSet) × (setOf (u .words) ≡ setGiven b (setOf (t .words)))
-unfolding setGiven
+set-for : (b : BookState) (t : LitSet) → (u : LitSet) × (setOf (u .words) ≡ whereLoaded b (setOf (t .words)) ∅)
+unfolding whereLoaded
 set-for b t = go (noneLoaded b)
   where
     go : (none-loaded : Bool) → (u : LitSet) × (setOf (u .words) ≡ cond none-loaded ∅ (setOf (t .words)))
@@ -79,7 +79,8 @@ module _ (s : Shelf) (l : Lesson) where
       let w = model-for (modelSays (shelfOf s) (truthsOf l)) in
       let T = set-for (shelfOf s) (l .model .truths) in
       let U = set-for (shelfOf s) (l .model .nonfalse) in
-      (record { answer = w .0; model = record { truths = T .0; nonfalse = U .0 } }, record { says = w .1; truths = T .1; nonfalse = U .1 })
+      let k = whereLoaded (shelfOf s) (l .model .rounds) 0 in
+      (record { answer = w .0; model = record { truths = T .0; nonfalse = U .0; rounds = k } }, record { says = w .1; truths = T .1; nonfalse = U .1; rounds = refl })
 
   pub listing-exists : (buffer : List ℕ) → (r : ListingAnswer) × (after : List ℕ) × Lists s l buffer r after
   listing-exists buffer =

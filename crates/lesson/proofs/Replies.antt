@@ -25,7 +25,7 @@ use Rattle.lister.specs.declared.Written.{Written}
 use Rattle.lister.specs.declared.Written.the-variants.{Length, Short}
 use Rattle.lister.proofs.Calls.{was-written, was-short}
 use Rattle.lister.proofs.Lines.{listing-room}
-use Rattle.lesson.specs.State.{inForce, Said, gives, refused, Ack, acknowledged, noneLoaded, inOrder, itsLiteral, changeFits, changeSays, changedSet, changed, searchSays, unlessClash, verdictSays, isClash, modelSays, setGiven, listingFrom, listingSays}
+use Rattle.lesson.specs.State.{inForce, Said, gives, refused, Ack, acknowledged, noneLoaded, inOrder, itsLiteral, changeFits, changeSays, changedSet, changed, searchSays, unlessClash, verdictSays, isClash, modelSays, whereLoaded, listingFrom, listingSays}
 use Rattle.lesson.specs.Calls.{shelfOf, ownOf, meaningOf, truthsOf, nonfalseOf, numberSays, ModelAfter, Changes, GivesVerdict, Searches, GivesModel, bytesOf, Lists}
 use Rattle.lesson.specs.declared.Shelf.{Shelf}
 use Rattle.lesson.specs.declared.Lesson.{Lesson}
@@ -142,11 +142,11 @@ module _ (s : Shelf) (l : Lesson) (A n : ℕ) (e : numberSays n ≡ inOrder (she
 
 module _ (s : Shelf) (l : Lesson) where
   pub model-20 : s .loaded ≡ 0 → (T U : LitSet) → setOf (T .words) ≡ ∅ → setOf (U .words) ≡ ∅
-      → GivesModel s l (record { answer = model.Refused 20; model = record { truths = T; nonfalse = U } })
-  unfolding modelSays setGiven
+      → GivesModel s l (record { answer = model.Refused 20; model = record { truths = T; nonfalse = U; rounds = 0 } })
+  unfolding modelSays whereLoaded
   model-20 e T U t u =
       let none = none-loaded-is s e in
-      record { says = sym (unloaded-says (shelfOf s) _ none); truths = rw none t; nonfalse = rw none u }
+      record { says = sym (unloaded-says (shelfOf s) _ none); truths = rw none t; nonfalse = rw none u; rounds = rw none refl }
 
   module _ (e : s .loaded ≡ 0 → ⊥) (found : Clash) (f : found ≡ clashIn (truthsOf l)) where
     model-by : (b : Clash) → found ≡ b → modelSays (shelfOf s) (truthsOf l) ≡ gives (isClash b)
@@ -154,16 +154,16 @@ module _ (s : Shelf) (l : Lesson) where
     model-by b h = loaded-says (shelfOf s) _ (loaded-is s e) ∙ ap (λ (x : Clash). gives (isClash x)) (sym f ∙ h)
 
     pub model-contradictory : (k : ℕ) → found ≡ clash.Name k → GivesModel s l (record { answer = model.Contradictory; model = l .model })
-    unfolding setGiven
+    unfolding whereLoaded
     model-contradictory k h =
         let some = loaded-is s e in
-        record { says = sym (model-by (clash.Name k) h); truths = rw some refl; nonfalse = rw some refl }
+        record { says = sym (model-by (clash.Name k) h); truths = rw some refl; nonfalse = rw some refl; rounds = rw some refl }
 
     pub model-consistent : found ≡ clash.None → GivesModel s l (record { answer = model.Consistent; model = l .model })
-    unfolding setGiven
+    unfolding whereLoaded
     model-consistent h =
         let some = loaded-is s e in
-        record { says = sym (model-by clash.None h); truths = rw some refl; nonfalse = rw some refl }
+        record { says = sym (model-by clash.None h); truths = rw some refl; nonfalse = rw some refl; rounds = rw some refl }
 
 -- ---- listing
 
@@ -172,10 +172,10 @@ unfolding listingFrom
 bytes-are s l e facts force = rw (force, shelf-loaded s e) refl
 
 -- no listing is longer
-pub bytes-most : (s : Shelf) (l : Lesson) → noneLoaded (shelfOf s) ≡ false → length (bytesOf s l) ≤ 65536
-bytes-most s l e =
+pub bytes-most : (s : Shelf) (l : Lesson) → noneLoaded (shelfOf s) ≡ false → l .model .rounds ≤ capacity → length (bytesOf s l) ≤ 65536
+bytes-most s l e few =
     let same = bytes-are s l (λ z. true≢false (sym (none-loaded-is s z) ∙ e)) (l .facts) (force-is l) in
-    omega (arith, ap length same, listing-room (s .book) (l .facts) (l .model) .fits)
+    omega (arith, ap length same, listing-room (s .book) (l .facts) (l .model) (omega arith) .fits)
 
 module _ (s : Shelf) (l : Lesson) (before : List ℕ) where
   pub listing-20 : s .loaded ≡ 0 → Lists s l before (listing.Refused 20) before

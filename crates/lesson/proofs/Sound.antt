@@ -12,7 +12,10 @@ use borrow.Author.Tests.{eqb-true, ltb-true, lt-ltb}
 use Rattle.wfsx.specs.Sets.{_∈_, _isIn_, members}
 use Rattle.wfsx.specs.Program.{Rule, fact}
 use Rattle.wfsx.specs.Model.{Heads⊆}
+use Rattle.wfsx.specs.Rounds.{rounds}
 use Rattle.wfsx.proofs.Members.{members-are}
+use Rattle.wfsx.proofs.Contradiction.{heads-in}
+use Rattle.wfsx.proofs.Rounds.{rounds-below}
 use Rattle.truth.proofs.Truth.{and-l, or-elim}
 use Rattle.litset.specs.Words.{room, capacity}
 use Rattle.litset.proofs.Words.{without-at}
@@ -84,3 +87,13 @@ module _ (d : State) (s : Sound d) where
 
   pub heads-in-room : Heads⊆ (programIn d) room
   heads-in-room r m = lt-ltb (r .head) capacity (book-in-room (r .head) (heads-in-book r m))
+
+  -- no model takes more rounds than the book has literals, and a set has room for these
+  pub rounds-in-book : rounds (programIn d) ≤ 2 * length (itsNames (d .book))
+  unfolding inBook
+  rounds-in-book = rounds-below (programIn d) _ (λ A m. ltb-true A (2 * length (itsNames (d .book))) (heads-in (programIn d) (inBook (d .book)) heads-in-book A m))
+
+  pub rounds-in-room : rounds (programIn d) ≤ capacity
+  rounds-in-room =
+      let few = s .few-names in
+      omega (arith, rounds-in-book)

@@ -64,7 +64,7 @@ module _ (s : Shelf) (l : Lesson) (stands : Standing s l) where
   -- then the bytes that the listing call writes are the listing of document 01
   pub bytes-stand : bytesOf s l ≡ listingIn (meaningOf s l)
   unfolding listingFrom listingIn programIn
-  bytes-stand = listing-stands _ _ _ _ _ (stands .truths) (stands .nonfalse)
+  bytes-stand = listing-stands _ _ _ _ _ _ (stands .truths) (stands .nonfalse) (stands .rounds)
 
 -- the listing of a book with no facts
 pub listing-begun : (names : List (List ℕ)) (rules : List Rule) → listingIn (record { book = loaded-with names rules; own = emptied }) ≡ listingOf names rules ∅

@@ -11,7 +11,7 @@ use Rattle.wfsx.specs.Model.{Verdict}
 use Rattle.wfsx.specs.Trees.{Tree, answer}
 use Rattle.litset.specs.Words.{clashIn}
 use Rattle.fixpoint.specs.Result.{verdictIn}
-use Rattle.lesson.specs.State.{BookState, State, programIn, noneLoaded, inBook, gives, refused, searchSays, unlessClash, verdictSays, isClash, modelSays, setGiven, listingSays}
+use Rattle.lesson.specs.State.{BookState, State, programIn, noneLoaded, inBook, gives, refused, searchSays, unlessClash, verdictSays, isClash, modelSays, whereLoaded, listingSays}
 use Rattle.lesson.proofs.Order.{loaded-says, inside, given-inside, some-book}
 
 pub verdict-inside : (b : BookState) (T U : Set) (A : ℕ) → A ∈ inBook b → verdictSays b T U A ≡ unlessClash (clashIn T) (gives (verdictIn T U A))
@@ -32,9 +32,9 @@ module _ (b : BookState) (e : noneLoaded b ≡ false) where
   unfolding modelSays
   model-loaded T = loaded-says b _ e
 
-  pub set-loaded : (S : Set) → setGiven b S ≡ S
-  unfolding setGiven
-  set-loaded S = rw e refl
+  pub part-loaded : {X : Type 0} (part else : X) → whereLoaded b part else ≡ part
+  unfolding whereLoaded
+  part-loaded part else = rw e refl
 
   module _ (bytes buffer : List ℕ) where
     pub listing-fits : length bytes ≤ length buffer → listingSays b bytes buffer ≡ gives (length bytes)

@@ -14,7 +14,7 @@ use Rattle.book.specs.Book.{namesOf, rulesOf, programOf}
 use Rattle.book.specs.declared.Book.{Book}
 use Rattle.fixpoint.specs.Result.{ModelOf, verdictIs}
 use Rattle.fixpoint.specs.declared.Model.{Model}
-use Rattle.lesson.specs.State.{BookState, unloaded, loaded-with, Own, State, inForce, programIn, Said, gives, refused, Ack, acknowledged, changeSays, changed, searchSays, verdictSays, modelSays, setGiven, listingFrom, listingSays, bufferAfter}
+use Rattle.lesson.specs.State.{BookState, unloaded, loaded-with, Own, State, inForce, programIn, Said, gives, refused, Ack, acknowledged, changeSays, changed, searchSays, verdictSays, modelSays, whereLoaded, listingFrom, listingSays, bufferAfter}
 use Rattle.lesson.specs.declared.Shelf.{Shelf}
 use Rattle.lesson.specs.declared.Lesson.{Lesson}
 use Rattle.lesson.specs.declared.Change.{Change}
@@ -50,7 +50,7 @@ truthsOf l = setOf (l .model .truths .words)
 abbrev pub nonfalseOf : Lesson → Set
 nonfalseOf l = setOf (l .model .nonfalse .words)
 
--- They are M and N of the lesson's program. (Of a lesson that a list of calls leaves this is a theorem.)
+-- They are M and N of the lesson's program, and the number beside them is that of the rounds. (Of a lesson that a list of calls leaves this is a theorem.)
 abbrev pub Standing : Shelf → Lesson → Type 0
 Standing s l = ModelOf (programIn (meaningOf s l)) (l .model)
 
@@ -114,8 +114,9 @@ modelSaid (model.Refused number) = refused number
 
 pub record GivesModel (s : Shelf) (l : Lesson) (r : ModelReply) : Type 0 where
   pub says : modelSaid (r .answer) ≡ modelSays (shelfOf s) (truthsOf l)
-  pub truths : setOf (r .model .truths .words) ≡ setGiven (shelfOf s) (truthsOf l)
-  pub nonfalse : setOf (r .model .nonfalse .words) ≡ setGiven (shelfOf s) (nonfalseOf l)
+  pub truths : setOf (r .model .truths .words) ≡ whereLoaded (shelfOf s) (truthsOf l) ∅
+  pub nonfalse : setOf (r .model .nonfalse .words) ≡ whereLoaded (shelfOf s) (nonfalseOf l) ∅
+  pub rounds : r .model .rounds ≡ whereLoaded (shelfOf s) (l .model .rounds) 0
 
 -- ---- listing
 
@@ -125,7 +126,7 @@ listingSaid (listing.Refused number) = refused number
 
 -- the bytes that the listing call writes
 abbrev pub bytesOf : Shelf → Lesson → List ℕ
-bytesOf s l = listingFrom (meaningOf s l) (truthsOf l) (nonfalseOf l)
+bytesOf s l = listingFrom (meaningOf s l) (truthsOf l) (nonfalseOf l) (l .model .rounds)
 
 -- `before` and `after` are the bytes of the lent buffer
 pub record Lists (s : Shelf) (l : Lesson) (before : List ℕ) (r : ListingAnswer) (after : List ℕ) : Type 0 where

@@ -141,13 +141,13 @@ isClash (Name n) = true
 unfoldable pub modelSays : BookState → Set → Said Bool
 modelSays b T = ifLoaded b (gives (isClash (clashIn T)))
 
--- a set of the model, where there is a book
-unfoldable pub setGiven : BookState → Set → Set
-setGiven b S = cond (noneLoaded b) ∅ S
+-- a part of the model where there is a book, and what is given in its place where there is none
+unfoldable pub whereLoaded : {X : Type 0} → BookState → X → X → X
+whereLoaded b part else = cond (noneLoaded b) else part
 
--- its bytes
-unfoldable pub listingFrom : State → Set → Set → List ℕ
-listingFrom d T U = listingBySets (itsNames (d .book)) (itsRules (d .book)) (inForce (d .own)) T U
+-- the bytes of the listing; k stands for the rounds
+unfoldable pub listingFrom : State → Set → Set → ℕ → List ℕ
+listingFrom d T U k = listingBySets (itsNames (d .book)) (itsRules (d .book)) (inForce (d .own)) T U k
 
 -- The listing call answers the listing's length. 25: the lent buffer is shorter than the listing
 unfoldable pub listingSays : BookState → List ℕ → List ℕ → Said ℕ

@@ -22,7 +22,7 @@ pub struct Shelf {
     pub book: Book,
 }
 
-// A lesson beside its book: the facts put in, and M and N of the book with the facts in force, which stand until another call changes the one or the
+// A lesson beside its book: the facts put in, and the model of the book with the facts in force, which stands until another call changes the one or the
 // other.
 #[repr(C)]
 pub struct Lesson {
@@ -62,7 +62,7 @@ pub enum ModelAnswer {
     Refused(u8),
 }
 
-// M and N, which are empty where the call is refused.
+// M, N and the rounds. Where the call is refused the sets are empty and the rounds 0.
 pub struct ModelReply {
     pub answer: ModelAnswer,
     pub model: Model,
@@ -214,7 +214,7 @@ pub fn search(s: Shelf, l: Lesson, literal: usize, default: bool, tree: Tree) ->
     SearchAnswer::Given(holds)
 }
 
-// M, N, and whether the lesson is contradictory.
+// M, N, the rounds, and whether the lesson is contradictory.
 pub fn model(s: Shelf, l: Lesson) -> ModelReply
     ensures { λ r. ⌜ GivesModel s l r ⌝ }
 {
@@ -224,6 +224,7 @@ pub fn model(s: Shelf, l: Lesson) -> ModelReply
             model: Model {
                 truths: litset::empty(),
                 nonfalse: litset::empty(),
+                rounds: 0,
             },
         };
     }

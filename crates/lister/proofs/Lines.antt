@@ -1,5 +1,5 @@
 -- The listing as the parts that are written one behind the other, and how long it can be.
-use mathlib.Core.Path.{_≡_, refl, ap, _∙_}
+use mathlib.Core.Path.{_≡_, refl, sym, ap, _∙_}
 use mathlib.Core.List.{List, [], _∷_, _++_, append-assoc}
 use Prim.Native.Nat.{ℕ, zero, suc, _+_, _-_, _*_, _^_, _≤_, _<_}
 use native.Mathlib.Numerals.{add-one}
@@ -22,6 +22,7 @@ use Rattle.scan.specs.Text.{comma, newline, maxLength}
 use Rattle.book.proofs.Names.{names-count, name-most, name-short, rules-counted}
 use Rattle.lister.specs.Listing.{modelWord, contradictionWord, refusedWord, verdictWord, digits, field, line, nameLine, nameLines, listingBy, listingBySets, verdictsBy, listingHeld, refusalOf}
 use Rattle.lister.specs.Steps.{Room, Put, countsTo, verdictsEnd}
+use Rattle.lister.specs.declared.Counts.{Counts}
 use Rattle.lister.proofs.Stored.{room-first, Left, left-step, left-none}
 use Rattle.lister.proofs.Digits.{digits-most}
 
@@ -55,31 +56,33 @@ module _ (v : ℕ → Verdict) (f : ℕ → List ℕ) (n k : ℕ) {all t u : Lis
 
 -- ---- the listing
 
-module _ (names : List (List ℕ)) (rules facts : ℕ) (v : ℕ → Verdict) where
-  pub clear-is : listingBy names rules facts v None ≡ field modelWord comma ++ (countsTo newline (length names) rules facts ++ nameLines v 0 names)
+module _ (names : List (List ℕ)) (c : Counts) (all : c .names ≡ length names) (v : ℕ → Verdict) where
+  pub clear-is : listingBy names (c .rules) (c .facts) (c .rounds) v None ≡ field modelWord comma ++ (countsTo newline c ++ nameLines v 0 names)
   unfolding listingBy line
-  clear-is = append-assoc (field modelWord comma) (countsTo newline (length names) rules facts) (nameLines v 0 names)
+  clear-is = rw (← all) (append-assoc (field modelWord comma) (countsTo newline c) (nameLines v 0 names))
 
-  pub clash-is : (n : ℕ) → listingBy names rules facts v (Name n) ≡ field contradictionWord comma ++ (countsTo comma (length names) rules facts ++ field (getD names n []) newline)
+  pub clash-is : (n : ℕ)
+      → listingBy names (c .rules) (c .facts) (c .rounds) v (Name n) ≡ field contradictionWord comma ++ (countsTo comma c ++ field (getD names n []) newline)
   unfolding listingBy line
-  clash-is n = simp append-assoc
+  clash-is n = rw (← all) (simp append-assoc)
 
 -- the same by the counts that the code has
-module _ (b : Book) (facts : LitSet) (m : Model) {names rules putIn : ℕ} (ns : names ≡ clamp maxNames (b .names)) (rs : rules ≡ clamp maxRules (b .rules))
-    (fs : putIn ≡ length (members capacity (setOf (facts .words)))) where
-  by-counts : (c : Clash) → clashIn (setOf (m .truths .words)) ≡ c → listingHeld b facts m ≡ listingBy (namesIn (b .text) (b .lengths) names) rules putIn (verdictsBy m) c
+module _ (b : Book) (facts : LitSet) (m : Model) (c : Counts) (ns : c .names ≡ clamp maxNames (b .names)) (rs : c .rules ≡ clamp maxRules (b .rules))
+    (fs : c .facts ≡ length (members capacity (setOf (facts .words)))) (ks : c .rounds ≡ m .rounds) where
+  abbrev names : List (List ℕ)
+  names = namesIn (b .text) (b .lengths) (c .names)
+
+  by-counts : (k : Clash) → clashIn (setOf (m .truths .words)) ≡ k → listingHeld b facts m ≡ listingBy names (c .rules) (c .facts) (c .rounds) (verdictsBy m) k
   unfolding listingBySets
-  by-counts c e = rw (ns, rs, fs, e, rules-counted b)
+  by-counts k e = rw (ns, rs, fs, ks, e, rules-counted b)
 
   pub clear-parts : clashIn (setOf (m .truths .words)) ≡ None
-      → listingHeld b facts m ≡ field modelWord comma ++ (countsTo newline names rules putIn ++ nameLines (verdictsBy m) 0 (namesIn (b .text) (b .lengths) names))
-  clear-parts e =
-      by-counts None e ∙ clear-is (namesIn (b .text) (b .lengths) names) rules putIn (verdictsBy m) ∙ rw (names-count (b .text) (b .lengths) names)
+      → listingHeld b facts m ≡ field modelWord comma ++ (countsTo newline c ++ nameLines (verdictsBy m) 0 names)
+  clear-parts e = by-counts None e ∙ clear-is names c (sym (names-count (b .text) (b .lengths) (c .names))) (verdictsBy m)
 
   pub clash-parts : (k : ℕ) → clashIn (setOf (m .truths .words)) ≡ Name k
-      → listingHeld b facts m ≡ field contradictionWord comma ++ (countsTo comma names rules putIn ++ field (getD (namesIn (b .text) (b .lengths) names) k []) newline)
-  clash-parts k e =
-      by-counts (Name k) e ∙ clash-is (namesIn (b .text) (b .lengths) names) rules putIn (verdictsBy m) k ∙ rw (names-count (b .text) (b .lengths) names)
+      → listingHeld b facts m ≡ field contradictionWord comma ++ (countsTo comma c ++ field (getD names k []) newline)
+  clash-parts k e = by-counts (Name k) e ∙ clash-is names c (sym (names-count (b .text) (b .lengths) (c .names))) (verdictsBy m) k
 
 pub refusal-is : (number at : ℕ) → refusalOf number at ≡ field refusedWord comma ++ (field (digits number) comma ++ field (digits at) newline)
 unfolding refusalOf line
@@ -99,16 +102,25 @@ verdict-most is-true = omega arith
 verdict-most is-false = omega arith
 verdict-most is-undefined = omega arith
 
-counts-most : (stop names rules facts : ℕ) → names < 10 ^ 20 → rules < 10 ^ 20 → facts < 10 ^ 20 → length (countsTo stop names rules facts) ≤ 63
-counts-most stop names rules facts a b c =
-    let rest = field (digits rules) comma ++ field (digits facts) stop in
+-- every count is a number of the machine
+pub record Small (c : Counts) : Type 0 where
+  pub names : c .names < 10 ^ 20
+  pub rules : c .rules < 10 ^ 20
+  pub facts : c .facts < 10 ^ 20
+  pub rounds : c .rounds < 10 ^ 20
+
+counts-most : (stop : ℕ) (c : Counts) → Small c → length (countsTo stop c) ≤ 84
+counts-most stop c small =
+    let last = field (digits (c .facts)) comma ++ field (digits (c .rounds)) stop in
     omega (
       arith,
-      length-append (field (digits names) comma) rest,
-      length-append (field (digits rules) comma) (field (digits facts) stop),
-      number-most names comma a,
-      number-most rules comma b,
-      number-most facts stop c,
+      length-append (field (digits (c .names)) comma) (field (digits (c .rules)) comma ++ last),
+      length-append (field (digits (c .rules)) comma) last,
+      length-append (field (digits (c .facts)) comma) (field (digits (c .rounds)) stop),
+      number-most (c .names) comma (small .names),
+      number-most (c .rules) comma (small .rules),
+      number-most (c .facts) comma (small .facts),
+      number-most (c .rounds) stop (small .rounds),
     )
 
 line-most : (v : ℕ → Verdict) (k : ℕ) (name : List ℕ) → k < 10 ^ 20 → length name ≤ maxLength → length (nameLine v k name) ≤ maxLength + 42
@@ -135,47 +147,52 @@ lines-most v f short k zero h = rw (rows-none f k) (omega arith)
 lines-most v f short k (suc n) h =
     rw (rows-first f k n) (omega (arith, length-append (nameLine v k (f k)) (nameLines v (suc k) (rows f (suc k) n)), line-most v k (f k) (omega arith) (short k), lines-most v f short (suc k) n (omega arith)))
 
-module _ (text lengths : List ℕ) (n rules facts : ℕ) (v : ℕ → Verdict) (few : n ≤ maxNames) (fit : rules < 10 ^ 20) (fit' : facts < 10 ^ 20) where
-  room-by : (c : Clash) → Room (listingBy (namesIn text lengths n) rules facts v c) 0
+module _ (text lengths : List ℕ) (c : Counts) (v : ℕ → Verdict) (few : c .names ≤ maxNames) (small : Small c) where
+  room-by : (k : Clash) → Room (listingBy (namesIn text lengths (c .names)) (c .rules) (c .facts) (c .rounds) v k) 0
   room-by None =
-      let names = namesIn text lengths n in
-      let size = names-count text lengths n in
-      let head = countsTo newline (length names) rules facts in
+      let names = namesIn text lengths (c .names) in
       record {
         fits =
             omega (
               arith,
-              ap length (clear-is names rules facts v),
-              length-append (field modelWord comma) (head ++ nameLines v 0 names),
-              length-append head (nameLines v 0 names),
-              counts-most newline (length names) rules facts (omega arith) fit fit',
-              lines-most v (nameAt text lengths) (name-most text lengths) 0 n (omega arith),
+              ap length (clear-is names c (sym (names-count text lengths (c .names))) v),
+              length-append (field modelWord comma) (countsTo newline c ++ nameLines v 0 names),
+              length-append (countsTo newline c) (nameLines v 0 names),
+              counts-most newline c small,
+              lines-most v (nameAt text lengths) (name-most text lengths) 0 (c .names) (omega arith),
             );
       }
   room-by (Name k) =
-      let names = namesIn text lengths n in
-      let size = names-count text lengths n in
-      let head = countsTo comma (length names) rules facts in
+      let names = namesIn text lengths (c .names) in
       let last = getD names k [] in
       record {
         fits =
             omega (
               arith,
-              ap length (clash-is names rules facts v k),
-              length-append (field contradictionWord comma) (head ++ field last newline),
-              length-append head (field last newline),
-              counts-most comma (length names) rules facts (omega arith) fit fit',
+              ap length (clash-is names c (sym (names-count text lengths (c .names))) v k),
+              length-append (field contradictionWord comma) (countsTo comma c ++ field last newline),
+              length-append (countsTo comma c) (field last newline),
+              counts-most comma c small,
               length-field last newline,
-              name-short text lengths n k,
+              name-short text lengths (c .names) k,
             );
       }
 
-pub listing-room : (b : Book) (facts : LitSet) (m : Model) → Room (listingHeld b facts m) 0
+-- the rounds of a model in memory are a number of the machine
+pub listing-room : (b : Book) (facts : LitSet) (m : Model) → m .rounds < 10 ^ 20 → Room (listingHeld b facts m) 0
 unfolding listingBySets
-listing-room b facts m =
-    room-by (b .text) (b .lengths) (clamp maxNames (b .names)) (length (rulesOf b)) (length (members capacity (setOf (facts .words)))) (verdictsBy m)
-    (clamp-most maxNames (b .names)) (omega (arith, rules-counted b, clamp-most maxRules (b .rules)))
-    (omega (arith, length-most (setOf (facts .words)) 0 capacity)) (clashIn (setOf (m .truths .words)))
+listing-room b facts m h =
+    let names = clamp maxNames (b .names) in
+    let few = clamp-most maxNames (b .names) in
+    let putIn = length (members capacity (setOf (facts .words))) in
+    room-by (b .text) (b .lengths) (record { names = names; rules = length (rulesOf b); facts = putIn; rounds = m .rounds }) (verdictsBy m) few
+    (record {
+      names = omega arith;
+      rules = omega (arith, rules-counted b, clamp-most maxRules (b .rules));
+      facts = omega (arith, length-most (setOf (facts .words)) 0 capacity);
+      rounds = h;
+    })
+    (clashIn (setOf (m .truths .words)))
 
 pub refusal-room : (number at : ℕ) → number < 10 ^ 20 → at < 10 ^ 20 → Room (refusalOf number at) 0
 refusal-room number at h l =

@@ -1,4 +1,4 @@
--- The bytes of the listing and of a refusal, whole (document 01, "The listing, whole").
+-- The bytes of the listing and of a refusal, whole (document 01, "The listing, whole"; document 02, A.10).
 use mathlib.Core.Bool.{cond}
 use mathlib.Core.List.{List, [], _∷_, _++_}
 use Prim.Native.Nat.{ℕ, zero, suc, _+_, _*_, _/_, _%_}
@@ -7,6 +7,7 @@ use lib.ListN.{length, getD}
 use Rattle.wfsx.specs.Sets.{Set, members}
 use Rattle.wfsx.specs.Program.{Rule, withFacts}
 use Rattle.wfsx.specs.Model.{M, Verdict, is-true, is-false, is-undefined, verdict}
+use Rattle.wfsx.specs.Rounds.{rounds}
 use Rattle.litset.specs.Words.{capacity, setOf, clashIn}
 use Rattle.litset.specs.declared.LitSet.{LitSet}
 use Rattle.book.specs.declared.Book.{Book}
@@ -65,9 +66,9 @@ unfoldable pub line : List ℕ → List (List ℕ) → List ℕ
 line f [] = field f newline
 line f (g ∷ fs) = field f comma ++ line g fs
 
--- NAMES, RULES and FACTS, the fields that both headers have behind their word
-abbrev pub counts : ℕ → ℕ → ℕ → List (List ℕ)
-counts names rules facts = digits names ∷ digits rules ∷ digits facts ∷ []
+-- NAMES, RULES, FACTS and ROUNDS, the fields that both headers have behind their word
+abbrev pub counts : ℕ → ℕ → ℕ → ℕ → List (List ℕ)
+counts names rules facts k = digits names ∷ digits rules ∷ digits facts ∷ digits k ∷ []
 
 -- the fields behind name k: the verdict of the name, and the verdict of its explicit negation
 abbrev pub verdictFields : (ℕ → Verdict) → ℕ → List (List ℕ)
@@ -84,22 +85,22 @@ nameLines v k (name ∷ names) = nameLine v k name ++ nameLines v (suc k) names
 
 -- ---- the listing
 
--- By the names, the counts of rules and of facts put in, the verdicts, and the name that makes the lesson contradictory, if any. A number past the
--- names stands for the empty name.
-unfoldable pub listingBy : List (List ℕ) → ℕ → ℕ → (ℕ → Verdict) → Clash → List ℕ
-listingBy names rules facts v None = line modelWord (counts (length names) rules facts) ++ nameLines v 0 names
-listingBy names rules facts v (Name n) = line contradictionWord (counts (length names) rules facts ++ (getD names n [] ∷ []))
+-- By the names, the counts of rules, of facts put in and of rounds, the verdicts, and the name that makes the lesson contradictory, if any. A number
+-- past the names stands for the empty name.
+unfoldable pub listingBy : List (List ℕ) → ℕ → ℕ → ℕ → (ℕ → Verdict) → Clash → List ℕ
+listingBy names rules facts k v None = line modelWord (counts (length names) rules facts k) ++ nameLines v 0 names
+listingBy names rules facts k v (Name n) = line contradictionWord (counts (length names) rules facts k ++ (getD names n [] ∷ []))
 
 -- the listing of a lesson: a book's names and rules, and the facts put in
 unfoldable pub listingOf : List (List ℕ) → List Rule → Set → List ℕ
 listingOf names rules facts =
     let putIn = members capacity facts in
     let P = withFacts rules putIn in
-    listingBy names (length rules) (length putIn) (verdict P) (clashIn (M P))
+    listingBy names (length rules) (length putIn) (rounds P) (verdict P) (clashIn (M P))
 
--- the same by two sets in the place of M and N (`proofs/Standing.antt`: with M and N it is `listingOf`)
-unfoldable pub listingBySets : List (List ℕ) → List Rule → Set → Set → Set → List ℕ
-listingBySets names rules facts T U = listingBy names (length rules) (length (members capacity facts)) (verdictIn T U) (clashIn T)
+-- the same by two sets and a number in the place of M, N and the rounds (`proofs/Standing.antt`: with these it is `listingOf`)
+unfoldable pub listingBySets : List (List ℕ) → List Rule → Set → Set → Set → ℕ → List ℕ
+listingBySets names rules facts T U k = listingBy names (length rules) (length (members capacity facts)) k (verdictIn T U) (clashIn T)
 
 -- the verdicts that the sets of a model give
 abbrev pub verdictsBy : Model → ℕ → Verdict
@@ -107,7 +108,8 @@ verdictsBy m A = verdictIn (setOf (m .truths .words)) (setOf (m .nonfalse .words
 
 -- the listing by what is held in memory, whatever its bits
 abbrev pub listingHeld : Book → LitSet → Model → List ℕ
-listingHeld b facts m = listingBySets (namesOf b) (rulesOf b) (setOf (facts .words)) (setOf (m .truths .words)) (setOf (m .nonfalse .words))
+listingHeld b facts m =
+    listingBySets (namesOf b) (rulesOf b) (setOf (facts .words)) (setOf (m .truths .words)) (setOf (m .nonfalse .words)) (m .rounds)
 
 -- ---- a refusal
 

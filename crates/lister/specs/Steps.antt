@@ -7,6 +7,7 @@ use lib.Seq.{sets}
 use Rattle.wfsx.specs.Model.{Verdict}
 use Rattle.scan.specs.Text.{comma, newline}
 use Rattle.lister.specs.Listing.{verdictWord, digits, field}
+use Rattle.lister.specs.declared.Counts.{Counts}
 
 -- Bytes that stand from `at` on end early enough for every place to be a number of the machine; no listing is longer.
 pub record Room (bytes : List ℕ) (at : ℕ) : Type 0 where
@@ -18,8 +19,9 @@ pub record Put (bytes : List ℕ) (at : ℕ) (before after : List ℕ) (next : �
   pub stored : after ≡ sets before at bytes
 
 -- the counts of a header, with `stop` behind the last
-abbrev pub countsTo : ℕ → ℕ → ℕ → ℕ → List ℕ
-countsTo stop names rules facts = field (digits names) comma ++ (field (digits rules) comma ++ field (digits facts) stop)
+abbrev pub countsTo : ℕ → Counts → List ℕ
+countsTo stop c =
+    field (digits (c .names)) comma ++ (field (digits (c .rules)) comma ++ (field (digits (c .facts)) comma ++ field (digits (c .rounds)) stop))
 
 -- the verdicts of name k as the end of its line
 abbrev pub verdictsEnd : (ℕ → Verdict) → ℕ → List ℕ

@@ -21,6 +21,14 @@ pub enum Written {
     Short,
 }
 
+// The counts of a header.
+struct Counts {
+    names: usize,
+    rules: usize,
+    facts: usize,
+    rounds: usize,
+}
+
 // ---- fields: each function writes from `at` on and answers the next place; past the end of the buffer nothing is stored
 
 // The bytes of s, and the byte `stop` behind them.
@@ -79,13 +87,14 @@ fn put_verdict(t: &mut [u8], at: usize, model: Model, l: usize, stop: u8) -> usi
 // ---- lines
 
 // The counts of a header, and the byte `stop` behind the last.
-fn put_counts(t: &mut [u8], at: usize, names: usize, rules: usize, facts: usize, stop: u8) -> usize
-    requires { ⌜ Room (countsTo stop names rules facts) at ⌝ }
-    ensures { λ r. ⌜ Put (countsTo stop names rules facts) at (now (t .entry)) (now (t .exit)) r ⌝ }
+fn put_counts(t: &mut [u8], at: usize, counts: Counts, stop: u8) -> usize
+    requires { ⌜ Room (countsTo stop counts) at ⌝ }
+    ensures { λ r. ⌜ Put (countsTo stop counts) at (now (t .entry)) (now (t .exit)) r ⌝ }
 {
-    let p = put_number(t, at, names, b',');
-    let q = put_number(t, p, rules, b',');
-    put_number(t, q, facts, stop)
+    let p = put_number(t, at, counts.names, b',');
+    let q = put_number(t, p, counts.rules, b',');
+    let r = put_number(t, q, counts.facts, b',');
+    put_number(t, r, counts.rounds, stop)
 }
 
 // The verdict of name k and the verdict of its explicit negation, the end of its line.
@@ -162,18 +171,22 @@ fn put_listing(t: &mut [u8], book: Book, facts: LitSet, model: Model) -> usize
     ensures { λ r. ⌜ Put (listingHeld book facts model) 0 (now (t .entry)) (now (t .exit)) r ⌝ }
 {
     let names = book::name_count(book);
-    let rules = book::rule_count(book);
-    let put_in = litset::count(facts);
+    let counts = Counts {
+        names,
+        rules: book::rule_count(book),
+        facts: litset::count(facts),
+        rounds: model.rounds,
+    };
     let clash = litset::lowest_both(model.truths);
     match clash {
         Clash::None => {
             let p = put_word(t, 0, b"model", b',');
-            let q = put_counts(t, p, names, rules, put_in, b'\n');
+            let q = put_counts(t, p, counts, b'\n');
             return put_name_lines(t, q, &book.text, &book.lengths, names, model);
         }
         Clash::Name(k) => {
             let p = put_word(t, 0, b"contradiction", b',');
-            let q = put_counts(t, p, names, rules, put_in, b',');
+            let q = put_counts(t, p, counts, b',');
             return put_name_end(t, q, &book.text, &book.lengths, names, k);
         }
     }

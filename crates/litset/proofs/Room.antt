@@ -3,10 +3,11 @@ use mathlib.Core.Path.{_≡_, refl}
 use mathlib.Core.Logic.{_⊎_, inl, inr}
 use mathlib.Core.Bool.{true}
 use mathlib.Core.List.{List}
-use Prim.Native.Nat.{ℕ, _<_}
+use Prim.Native.Nat.{ℕ, _≤_, _<_}
+use native.Mathlib.Nat.{le-trans}
 use Rattle.wfsx.specs.Sets.{Set, _∈_, _∉_, _⊆_, _isIn_, members}
-use Rattle.wfsx.proofs.Sets.{⊆-antisym, outside, outside-falls, first-missing}
-use Rattle.wfsx.proofs.Members.{members-are}
+use Rattle.wfsx.proofs.Sets.{⊆-antisym, outside, outside-most, outside-falls, first-missing}
+use Rattle.wfsx.proofs.Members.{members-are, length-most}
 use Rattle.litset.specs.Words.{capacity}
 
 -- every literal that a set has room for
@@ -15,6 +16,10 @@ literals = members capacity (λ A. true)
 
 abbrev pub free : Set → ℕ
 free S = outside S literals
+
+pub free-most : (S : Set) → free S ≤ capacity
+unfolding literals
+free-most S = le-trans (outside-most S literals) (length-most (λ A. true) 0 capacity)
 
 pub free-falls : (X Y : Set) → X ⊆ Y → ((A : ℕ) → A ∈ Y → A < capacity) → (X ≡ Y → ⊥) → free Y < free X
 unfolding literals

@@ -117,7 +117,7 @@ modelValue (model.Refused number) = 0
 abbrev pub ModelIn : (lesson-model.ModelReply → Type 0) → ModelReply → Type 0
 ModelIn May r =
     (q : lesson-model.ModelReply) × May q × (r .number ≡ modelNumber (q .answer)) × (r .contradictory ≡ modelValue (q .answer))
-    × (r .truths ≡ q .model .truths) × (r .nonfalse ≡ q .model .nonfalse)
+    × (r .truths ≡ q .model .truths) × (r .nonfalse ≡ q .model .nonfalse) × (r .rounds ≡ q .model .rounds)
 
 -- ---- listing
 

@@ -62,6 +62,7 @@ pub struct ModelReply {
     pub contradictory: u8,
     pub truths: LitSet,
     pub nonfalse: LitSet,
+    pub rounds: usize,
 }
 
 #[repr(C)]
@@ -295,11 +296,13 @@ pub extern "C" fn mezhkura_model(desk: Desk) -> ModelReply
     let answer = q.answer;
     let truths = q.model.truths;
     let nonfalse = q.model.nonfalse;
+    let rounds = q.model.rounds;
     ModelReply {
         number: model_number(answer),
         contradictory: model_value(answer),
         truths,
         nonfalse,
+        rounds,
     }
 }
 

@@ -1,7 +1,7 @@
 -- The pruned trees agree with the model, for every program, contradictory ones too.
 -- Soundness: a T-tree that holds gives a literal of M, by induction over the heads outside the T-ancestors, since a TU-tree finds all of N: it
--- follows the rounds of Γs(M), in which no local ancestor has come up yet. Completeness: a literal of I(k) has a T-tree below ancestors that are
--- not in I(k), by induction over k and the rounds of Γ, since a TU-tree that holds there derives its literal in Γs(I(k)).
+-- follows the steps of Γs(M), in which no local ancestor has come up yet. Completeness: a literal of I(k) has a T-tree below ancestors that are
+-- not in I(k), by induction over k and the steps of Γ, since a TU-tree that holds there derives its literal in Γs(I(k)).
 use mathlib.Core.Path.{_≡_, refl, sym, _∙_, ap, subst}
 use mathlib.Core.Logic.{_⊎_, inl, inr}
 use mathlib.Core.Bool.{true, not, _||_}
@@ -16,7 +16,7 @@ use Rattle.wfsx.specs.Trees.{T, TU, child, tree, answer}
 use Rattle.truth.proofs.Truth.{clash, decided, not-intro, not-mono, and-intro}
 use Rattle.wfsx.proofs.Sets.{⊆-antisym, Apart, apart-∅, apart-add, add-∪, outside-add}
 use Rattle.wfsx.proofs.Supported.{heads, supported-map}
-use Rattle.wfsx.proofs.Operators.{round, round-grows, Γ-fixed, I-grows, M-has}
+use Rattle.wfsx.proofs.Operators.{derived, derived-grows, Γ-fixed, I-grows, M-has}
 use Rattle.wfsx.proofs.Trees.{open-heads, fewer, tree-unfolds, holds-at, first-way}
 
 module _ (P : Program) where
@@ -26,16 +26,16 @@ module _ (P : Program) where
 
   -- ---- soundness
 
-  -- the rounds of N
+  -- the steps of N
   abbrev N-at : ℕ → Set
-  N-at j = iterate (round (seminormal P) (M P)) ∅ j
+  N-at j = iterate (derived (seminormal P) (M P)) ∅ j
 
   TU-finds : (G : Set) → tree P T ∅ G ⊆ M P → (j : ℕ) (L : Set) → Apart (N-at j) L → N-at j ⊆ tree P TU L G
   TU-finds G sound zero L apart A h = absurd (clash h refl)
   TU-finds G sound (suc j) L apart A h = go (TU-finds G sound j) (decided (N-at j A))
     where
       earlier : Apart (N-at j) L
-      earlier B b = apart B (round-grows (seminormal P) (M P) j B b)
+      earlier B b = apart B (derived-grows (seminormal P) (M P) j B b)
 
       go : ((L : Set) → Apart (N-at j) L → N-at j ⊆ tree P TU L G) → (A ∈ N-at j) ⊎ (A ∉ N-at j) → A ∈ tree P TU L G
       go found (inl e) = found L earlier A e
@@ -92,16 +92,16 @@ module _ (P : Program) where
   TU-derives : (S G : Set) → Found S → Apart S G → (L : Set) → tree P TU L G ⊆ Γs P S
   TU-derives S G found apart L = TU-derives-to S G found apart (open-heads P L) L (le-refl _)
 
-  -- the rounds of ΓΓs(S)
+  -- the steps of ΓΓs(S)
   abbrev ΓΓs-at : Set → ℕ → Set
-  ΓΓs-at S j = iterate (round P (Γs P S)) ∅ j
+  ΓΓs-at S j = iterate (derived P (Γs P S)) ∅ j
 
   T-finds : (S : Set) → Found S → (j : ℕ) (L G : Set) → Apart S (L ∪ G) → Apart (ΓΓs-at S j) (L ∪ G) → ΓΓs-at S j ⊆ tree P T L G
   T-finds S known zero L G old apart A h = absurd (clash h refl)
   T-finds S known (suc j) L G old apart A h = go (T-finds S known j) (decided (S A)) (decided (ΓΓs-at S j A))
     where
       earlier : Apart (ΓΓs-at S j) (L ∪ G)
-      earlier B b = apart B (round-grows P (Γs P S) j B b)
+      earlier B b = apart B (derived-grows P (Γs P S) j B b)
 
       go : ((L G : Set) → Apart S (L ∪ G) → Apart (ΓΓs-at S j) (L ∪ G) → ΓΓs-at S j ⊆ tree P T L G)
           → (A ∈ S) ⊎ (A ∉ S) → (A ∈ ΓΓs-at S j) ⊎ (A ∉ ΓΓs-at S j) → A ∈ tree P T L G

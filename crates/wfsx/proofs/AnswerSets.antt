@@ -10,7 +10,7 @@ use Rattle.wfsx.specs.Model.{Γ, Γs, M, N, PartialStable, Heads⊆, Con
 use Rattle.wfsx.specs.AnswerSets.{AnswerSet, Accords}
 use Rattle.truth.proofs.Truth.{decided, contra}
 use Rattle.wfsx.proofs.Sets.{⊆-antisym}
-use Rattle.wfsx.proofs.Operators.{round-map, Γ-ind, Γs-antitone, Γs-has, Γs⊆Γ, M-least, M-from-N, N-is, verdict-is}
+use Rattle.wfsx.proofs.Operators.{derived-map, Γ-ind, Γs-antitone, Γs-has, Γs⊆Γ, M-least, M-from-N, N-is, verdict-is}
 use Rattle.wfsx.proofs.Contradiction.{one-literal, M⊆N, stable-with}
 
 module _ (P : Program) (S : Set) (a : AnswerSet P S) where
@@ -18,7 +18,7 @@ module _ (P : Program) (S : Set) (a : AnswerSet P S) where
   answer-set-Γs = ⊆-antisym (λ A h. inside A (rw (a .fixpoint) at h)) (λ A h. rw (a .fixpoint) (Γs⊆Γ P S A h))
     where
       inside : Γ P S ⊆ Γs P S
-      inside = Γ-ind P S (λ A. A ∈ Γs P S) (λ D d A m h. Γs-has P S A (one-literal S (a .consistent) A (rw (a .fixpoint) m)) (round-map P d (λ C c. c) A h))
+      inside = Γ-ind P S (λ A. A ∈ Γs P S) (λ D d A m h. Γs-has P S A (one-literal S (a .consistent) A (rw (a .fixpoint) m)) (derived-map P d (λ C c. c) A h))
 
   pub M⊆answer-set : M P ⊆ S
   M⊆answer-set = M-least P S (λ A h. rw (a .fixpoint) (rw answer-set-Γs h))

@@ -15,7 +15,7 @@ use Rattle.truth.proofs.Truth.{clash, contra, refuted, not-mono, and-l, and-r, 
 use Rattle.wfsx.proofs.Sets.{first-missing}
 use Rattle.wfsx.proofs.Program.{compl-even, compl-odd, of-name}
 use Rattle.wfsx.proofs.Supported.{heads}
-use Rattle.wfsx.proofs.Operators.{round-map, Γ-ind, Γ-head, Γs-antitone, Γs-blocks, Γs-has, M-fixpoint, M-from-N, M-least, I⊆M, N-is, M-head}
+use Rattle.wfsx.proofs.Operators.{derived-map, Γ-ind, Γ-head, Γs-antitone, Γs-blocks, Γs-has, M-fixpoint, M-from-N, M-least, I⊆M, N-is, M-head}
 
 pub heads-in : (P : Program) (base : Set) → Heads⊆ P base → (A : ℕ) → A isIn heads P → A ∈ base
 heads-in [] base h A m = elim m [ ]
@@ -40,7 +40,7 @@ module _ (P : Program) where
 
   -- ΓΓs(S) lies in Γs(U), where U lies in Γs(S) and no literal of ΓΓs(S) has its complement in U
   cross : (S U : Set) → U ⊆ Γs P S → ((A : ℕ) → A ∈ Γ P (Γs P S) → compl A ∉ U) → Γ P (Γs P S) ⊆ Γs P U
-  cross S U f c = Γ-ind P (Γs P S) (λ A. A ∈ Γs P U) (λ D d A a h. Γs-has P U A (c A a) (round-map P d f A h))
+  cross S U f c = Γ-ind P (Γs P S) (λ A. A ∈ Γs P U) (λ D d A a h. Γs-has P U A (c A a) (derived-map P d f A h))
 
   module _ (consistent : (A : ℕ) → A ∈ M P → compl A ∉ M P) where
     next : (k : ℕ) → I P k ⊆ Γs P (M P) → Γ P (Γs P (I P k)) ⊆ Γs P (M P)

@@ -6,6 +6,7 @@ pub mod Program
 pub mod Supported
 pub mod Facts
 pub mod Operators
+pub mod Rounds
 pub mod Parts
 pub mod Contradiction
 pub mod AnswerSets

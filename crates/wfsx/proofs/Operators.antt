@@ -14,32 +14,32 @@ use Rattle.wfsx.proofs.Supported.{supported-map, holds-map, heads, supp
 -- ---- Γ
 
 module _ (P : Program) where
-  -- what D gives in one round, in the reduct by S
-  abbrev pub round : Set → Set → Set
-  round S D = supported P (holds D S)
+  -- what D gives in one step, in the reduct by S
+  abbrev pub derived : Set → Set → Set
+  derived S D = supported P (holds D S)
 
-  pub round-map : {D E S U : Set} → D ⊆ E → U ⊆ S → round S D ⊆ round U E
-  round-map {D} {E} {S} {U} d s = supported-map (holds D S) (holds E U) (holds-map d s) P
+  pub derived-map : {D E S U : Set} → D ⊆ E → U ⊆ S → derived S D ⊆ derived U E
+  derived-map {D} {E} {S} {U} d s = supported-map (holds D S) (holds E U) (holds-map d s) P
 
-  pub round-grows : (S : Set) (n : ℕ) → iterate (round S) ∅ n ⊆ iterate (round S) ∅ (suc n)
-  round-grows S = chain-grows (round S) (λ D E d. round-map d (λ A a. a))
+  pub derived-grows : (S : Set) (n : ℕ) → iterate (derived S) ∅ n ⊆ iterate (derived S) ∅ (suc n)
+  derived-grows S = chain-grows (derived S) (λ D E d. derived-map d (λ A a. a))
 
   module _ (S : Set) where
-    pub Γ-fixed : Γ P S ≡ round S (Γ P S)
+    pub Γ-fixed : Γ P S ≡ derived S (Γ P S)
     unfolding Γ
-    Γ-fixed = chain-stops (round S) (λ D E d. round-map d (λ A a. a)) (heads P) (λ D. supported-head P (holds D S)) (length P) (heads-most P)
+    Γ-fixed = chain-stops (derived S) (λ D E d. derived-map d (λ A a. a)) (heads P) (λ D. supported-head P (holds D S)) (length P) (heads-most P)
 
     -- induction over Γ(S): a literal is derived from a part D of Γ(S) of which the statement is known
-    pub Γ-ind : (Q : ℕ → Type 0) → ((D : Set) → ((B : ℕ) → B ∈ D → Q B) → (A : ℕ) → A ∈ Γ P S → A ∈ round S D → Q A) → (A : ℕ) → A ∈ Γ P S → Q A
+    pub Γ-ind : (Q : ℕ → Type 0) → ((D : Set) → ((B : ℕ) → B ∈ D → Q B) → (A : ℕ) → A ∈ Γ P S → A ∈ derived S D → Q A) → (A : ℕ) → A ∈ Γ P S → Q A
     unfolding Γ
     Γ-ind Q step A h = both A h .1
       where
         both : (A : ℕ) → A ∈ Γ P S → (A ∈ Γ P S) × Q A
-        both = chain-ind (round S) (λ A. (A ∈ Γ P S) × Q A) (λ D d A a.
-            let m : A ∈ Γ P S = rw Γ-fixed (round-map (λ B b. d B b .0) (λ C c. c) A a) in (m, step D (λ B b. d B b .1) A m a)) (length P)
+        both = chain-ind (derived S) (λ A. (A ∈ Γ P S) × Q A) (λ D d A a.
+            let m : A ∈ Γ P S = rw Γ-fixed (derived-map (λ B b. d B b .0) (λ C c. c) A a) in (m, step D (λ B b. d B b .1) A m a)) (length P)
 
-    pub Γ-inside : (U : Set) → round S U ⊆ U → Γ P S ⊆ U
-    Γ-inside U c = Γ-ind (λ A. A ∈ U) (λ D d A _ h. c A (round-map d (λ C s. s) A h))
+    pub Γ-inside : (U : Set) → derived S U ⊆ U → Γ P S ⊆ U
+    Γ-inside U c = Γ-ind (λ A. A ∈ U) (λ D d A _ h. c A (derived-map d (λ C s. s) A h))
 
     -- Γ(S) is closed under the rules that S keeps, and inside every set that is
     pub Γ-least : LeastClosed P S (Γ P S)
@@ -50,7 +50,7 @@ module _ (P : Program) where
         }
 
   pub Γ-antitone : {S U : Set} → S ⊆ U → Γ P U ⊆ Γ P S
-  Γ-antitone {S} {U} f = Γ-inside U (Γ P S) (λ A h. rw (Γ-fixed S) (round-map (λ B b. b) f A h))
+  Γ-antitone {S} {U} f = Γ-inside U (Γ P S) (λ A h. rw (Γ-fixed S) (derived-map (λ B b. b) f A h))
 
   pub Γ-head : (S : Set) (A : ℕ) → A ∈ Γ P S → A isIn heads P
   Γ-head S A h = supported-head P (holds (Γ P S) S) A (rw (Γ-fixed S) at h)
@@ -71,24 +71,24 @@ module _ (P : Program) where
   unfolding Γs
   Γs-antitone f = Γ-antitone (seminormal P) f
 
-  -- a round of Γs is a round of Γ that passes over the literals whose complement is in S
-  pub round-seminormal : (S D : Set) (A : ℕ) → round (seminormal P) S D A ≡ (not (S (compl A)) && round P S D A)
-  round-seminormal S D A = supported-seminormal P (holds D S) A
+  -- a step of Γs is a step of Γ that passes over the literals whose complement is in S
+  pub derived-seminormal : (S D : Set) (A : ℕ) → derived (seminormal P) S D A ≡ (not (S (compl A)) && derived P S D A)
+  derived-seminormal S D A = supported-seminormal P (holds D S) A
 
-  pub Γs-fixed : (S : Set) (A : ℕ) → Γs P S A ≡ (not (S (compl A)) && round P S (Γs P S) A)
+  pub Γs-fixed : (S : Set) (A : ℕ) → Γs P S A ≡ (not (S (compl A)) && derived P S (Γs P S) A)
   unfolding Γs
-  Γs-fixed S A = ap (λ (U : Set). U A) (Γ-fixed (seminormal P) S) ∙ round-seminormal S (Γ (seminormal P) S) A
+  Γs-fixed S A = ap (λ (U : Set). U A) (Γ-fixed (seminormal P) S) ∙ derived-seminormal S (Γ (seminormal P) S) A
 
   pub Γs-blocks : (S : Set) (A : ℕ) → A ∈ Γs P S → compl A ∉ S
-  Γs-blocks S A h = not-true (S (compl A)) (and-l (not (S (compl A))) (round P S (Γs P S) A) (sym (Γs-fixed S A) ∙ h))
+  Γs-blocks S A h = not-true (S (compl A)) (and-l (not (S (compl A))) (derived P S (Γs P S) A) (sym (Γs-fixed S A) ∙ h))
 
-  pub Γs-has : (S : Set) (A : ℕ) → compl A ∉ S → A ∈ round P S (Γs P S) → A ∈ Γs P S
-  Γs-has S A c h = Γs-fixed S A ∙ and-intro (not (S (compl A))) (round P S (Γs P S) A) (not-intro c) h
+  pub Γs-has : (S : Set) (A : ℕ) → compl A ∉ S → A ∈ derived P S (Γs P S) → A ∈ Γs P S
+  Γs-has S A c h = Γs-fixed S A ∙ and-intro (not (S (compl A))) (derived P S (Γs P S) A) (not-intro c) h
 
   pub Γs⊆Γ : (S : Set) → Γs P S ⊆ Γ P S
   unfolding Γs
   Γs⊆Γ S = Γ-inside (seminormal P) S (Γ P S) (λ A h.
-      rw (Γ-fixed P S) (and-r (not (S (compl A))) (round P S (Γ P S) A) (sym (round-seminormal S (Γ P S) A) ∙ h)))
+      rw (Γ-fixed P S) (and-r (not (S (compl A))) (derived P S (Γ P S) A) (sym (derived-seminormal S (Γ P S) A) ∙ h)))
 
   -- ---- I(k), M and N
 
@@ -135,7 +135,7 @@ module _ (P : Program) where
   unfolding N
   M-from-N = M-fixpoint
 
-  pub M-has : round P (N P) (M P) ⊆ M P
+  pub M-has : derived P (N P) (M P) ⊆ M P
   M-has A h = rw M-from-N (rw (Γ-fixed P (N P)) (rw (← M-from-N) h))
 
   pub M-head : (A : ℕ) → A ∈ M P → A isIn heads P

@@ -1,6 +1,7 @@
--- The definitions: sets of literals, programs, the model, answer sets, the pruned trees.
+-- The definitions: sets of literals, programs, the model, its rounds, answer sets, the pruned trees.
 pub mod Sets
 pub mod Program
 pub mod Model
+pub mod Rounds
 pub mod AnswerSets
 pub mod Trees

@@ -43,7 +43,7 @@ supported (r ∷ P) f A = eqb (r .head) A && every f (r .body) || supported P f 
 abbrev pub headed : Program → Set
 headed P = supported P (λ e. true)
 
--- Γ(S), the least set closed under the rules that S keeps: it is reached after as many rounds as there are rules, since each round but the
+-- Γ(S), the least set closed under the rules that S keeps: it is reached after as many steps as there are rules, since each step but the
 -- last adds a head.
 unfoldable pub Γ : Program → Set → Set
 Γ P S = iterate (λ D. supported P (holds D S)) ∅ (length P)
@@ -58,7 +58,7 @@ unfoldable pub Γs : Program → Set → Set
 unfoldable pub I : Program → ℕ → Set
 I P k = iterate (λ S. Γ P (Γs P S)) ∅ k
 
--- M, the least fixpoint of ΓΓs: the I(k) stand still after as many steps as there are rules.
+-- M, the least fixpoint of ΓΓs: the I(k) stand still after as many rounds as there are rules (`Rounds.antt` has the least number).
 unfoldable pub M : Program → Set
 M P = I P (length P)
 

@@ -1,8 +1,9 @@
--- `settle`: the loop's invariant is that the set is one of the I(k); it lies in the next one, a round that adds something leaves fewer literals outside,
--- and the set that ΓΓs keeps is M.
+-- `settle`: the loop's invariant is that the set is I(k) for the k counted, and that no round before added nothing. The set lies in the next one; a round
+-- that adds something leaves fewer literals outside, so the count has room; the set that ΓΓs keeps is M, and k the least number at which I stands still.
 use borrow.Author.Needs.{needs}
 use mathlib.Core.Path.{_≡_, sym, _∙_}
 use mathlib.Core.Bool.{true≢false}
+use native.Mathlib.Omega.{arith}
 use lib.ListN.{length}
 use Rattle.litset.specs.Words.{nWords, setOf}
 use Rattle.litset.proofs.Words.{member-room}
@@ -13,10 +14,10 @@ use Rattle.fixpoint.proofs.settle.Statement.{statement}
 use Rattle.fixpoint.proofs.settle.Tie as tie
 
 abbrev Inv-loop : tie.InvT-loop
-Inv-loop heads starts entries count facts x₀ x = Round (program (rulesIn heads starts entries count) (setOf (facts .words))) (setOf (x .words))
+Inv-loop heads starts entries count facts x₀ rounds₀ x rounds = Round (program (rulesIn heads starts entries count) (setOf (facts .words))) rounds (setOf (x .words))
 
 abbrev μ-loop : tie.MeasureT-loop
-μ-loop heads starts entries count facts x₀ x = free (setOf (x .words))
+μ-loop heads starts entries count facts x₀ rounds₀ x rounds = free (setOf (x .words))
 
 empty-requires : tie.Need-empty-requires Inv-loop μ-loop
 empty-requires c κs = search needs
@@ -38,7 +39,12 @@ returns c =
     let turn = c .before .before .before .before in
     let same = c .before .equal .ensures .0 (c .if1 .taken) in
     let found = round-end _ (turn .loop .inv) (c .before .before .before .gamma-seminormal .ensures) (c .before .before .gamma-above .ensures) same in
-    record { truths = found .0; nonfalse = found .1 }
+    record { truths = found .0; nonfalse = found .1; rounds = found .2 }
+
+add-rounds : tie.Need-add-rounds Inv-loop μ-loop
+add-rounds c =
+    let within = c .before .before .before .before .loop .inv .within in
+    omega arith
 
 loop-less : tie.Need-loop-less Inv-loop μ-loop
 loop-less c =
@@ -48,7 +54,11 @@ loop-less c =
     (member-room ws size) (λ same. true≢false (sym (c .before .equal .ensures .1 same) ∙ c .if1 .left))
 
 loop-again : tie.Need-loop-again Inv-loop μ-loop
-loop-again c = round-more _ (c .before .before .before .before .loop .inv) (c .before .before .before .gamma-seminormal .ensures) (c .before .before .gamma-above .ensures)
+loop-again c =
+    let ws = c .before .before .gamma-above .result .words in
+    let size : length ws ≡ nWords = search needs in
+    round-more _ (c .before .before .before .before .loop .inv) (c .before .before .before .gamma-seminormal .ensures) (c .before .before .gamma-above .ensures)
+    (member-room ws size) (λ same. true≢false (sym (c .before .equal .ensures .1 same) ∙ c .if1 .left))
 
 pub settle-spec : {M : Type 1} → statement M
 settle-spec =
@@ -62,5 +72,6 @@ settle-spec =
     gamma-above-requires
     equal-requires
     returns
+    add-rounds
     loop-less
     loop-again)

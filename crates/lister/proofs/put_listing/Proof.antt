@@ -1,6 +1,6 @@
 -- `put_listing`: the word, the counts and the names' lines, or the word, the counts and a name, one behind the other.
 use borrow.Author.Needs.{needs}
-use mathlib.Core.Path.{_≡_, sym, _∙_}
+use mathlib.Core.Path.{_≡_, refl, sym, _∙_}
 use mathlib.Core.List.{List, [], _++_}
 use Prim.Native.Nat.{ℕ}
 use lib.ListN.{getD}
@@ -10,6 +10,7 @@ use Rattle.book.proofs.Counts.{clamp-most}
 use Rattle.scan.specs.Text.{comma, newline}
 use Rattle.lister.specs.Listing.{modelWord, contradictionWord, field, nameLines, verdictsBy, listingHeld}
 use Rattle.lister.specs.Steps.{Room, countsTo}
+use Rattle.lister.specs.declared.Counts.{Counts}
 use Rattle.lister.proofs.Stored.{put-then, room-second, room-third}
 use Rattle.lister.proofs.Lines.{clear-parts, clash-parts, listing-room}
 use native.Mathlib.Omega.{arith}
@@ -47,14 +48,23 @@ at-header-2 c = c .before .before .before .before .before .before .before .befor
 abbrev whole : tie.After-count → List ℕ
 whole c = listingHeld (at-start c .args .t2) (at-start c .args .facts) (at-start c .args .model)
 
+abbrev counts : tie.After-count → Counts
+counts c =
+    record {
+      names = c .before .before .name-count .result;
+      rules = c .before .rule-count .result;
+      facts = c .count .result;
+      rounds = at-start c .args .model .rounds;
+    }
+
 abbrev header : tie.After-count → ℕ → List ℕ
-header c stop = countsTo stop (c .before .before .name-count .result) (c .before .rule-count .result) (c .count .result)
+header c stop = countsTo stop (counts c)
 
 abbrev names : tie.After-count → List (List ℕ)
 names c = namesIn (at-start c .args .t2 .text) (at-start c .args .t2 .lengths) (c .before .before .name-count .result)
 
 whole-room : (c : tie.After-count) → Room (whole c) 0
-whole-room c = listing-room (at-start c .args .t2) (at-start c .args .facts) (at-start c .args .model)
+whole-room c = listing-room (at-start c .args .t2) (at-start c .args .facts) (at-start c .args .model) (omega arith)
 
 -- the parts of the listing without a clash
 abbrev lines : tie.After-count → List ℕ
@@ -62,9 +72,10 @@ lines c = nameLines (verdictsBy (at-start c .args .model)) 0 (names c)
 
 clear : (c : tie.After-enum-told) → whole (told-counts c) ≡ field modelWord comma ++ (header (told-counts c) newline ++ lines (told-counts c))
 clear c =
-    let counts = told-counts c in
-    let a = at-start counts .args in
-    clear-parts (a .t2) (a .facts) (a .model) (counts .before .before .name-count .ensures) (counts .before .rule-count .ensures) (counts .count .ensures) (sym (c .before .before .lowest-both .ensures) ∙ c .enum-told .given .1)
+    let counted = told-counts c in
+    let a = at-start counted .args in
+    clear-parts (a .t2) (a .facts) (a .model) (counts counted) (counted .before .before .name-count .ensures) (counted .before .rule-count .ensures) (counted .count .ensures) refl
+    (sym (c .before .before .lowest-both .ensures) ∙ c .enum-told .given .1)
 
 clear-room : (c : tie.After-enum-told) → Room (field modelWord comma ++ (header (told-counts c) newline ++ lines (told-counts c))) 0
 clear-room c = rw (clear c) at (whole-room (told-counts c))
@@ -75,9 +86,10 @@ name c = field (getD (names (clash-counts c)) (c .clash .given .0 .0) []) newlin
 
 clash : (c : tie.After-clash) → whole (clash-counts c) ≡ field contradictionWord comma ++ (header (clash-counts c) comma ++ name c)
 clash c =
-    let counts = clash-counts c in
-    let a = at-start counts .args in
-    clash-parts (a .t2) (a .facts) (a .model) (counts .before .before .name-count .ensures) (counts .before .rule-count .ensures) (counts .count .ensures) (c .clash .given .0 .0) (sym (c .before .before .lowest-both .ensures) ∙ c .clash .given .1)
+    let counted = clash-counts c in
+    let a = at-start counted .args in
+    clash-parts (a .t2) (a .facts) (a .model) (counts counted) (counted .before .before .name-count .ensures) (counted .before .rule-count .ensures) (counted .count .ensures) refl
+    (c .clash .given .0 .0) (sym (c .before .before .lowest-both .ensures) ∙ c .clash .given .1)
 
 clash-room : (c : tie.After-clash) → Room (field contradictionWord comma ++ (header (clash-counts c) comma ++ name c)) 0
 clash-room c = rw (clash c) at (whole-room (clash-counts c))
@@ -106,17 +118,17 @@ put-word-requires c κs = search needs
 put-counts-requires : tie.Need-put-counts-requires
 put-counts-requires c κs =
     let word = c .before .before .before in
-    let counts = told-counts (at-clear word) in
-    room-second (field modelWord comma) (header counts newline) (lines counts) (clear-room (at-clear word)) (word .put-word .ensures)
+    let counted = told-counts (at-clear word) in
+    room-second (field modelWord comma) (header counted newline) (lines counted) (clear-room (at-clear word)) (word .put-word .ensures)
 
 put-name-lines-requires : tie.Need-put-name-lines-requires
 put-name-lines-requires c κs =
     let head = c .before .before .before .before .before .before .before .before in
     let word = at-word head in
-    let counts = told-counts (at-clear word) in
-    let most = clamp-most maxNames (at-start counts .args .t2 .names) in
-    let count = counts .before .before .name-count .ensures in
-    (room-third (field modelWord comma) (header counts newline) (lines counts) (clear-room (at-clear word)) (word .put-word .ensures) (head .put-counts .ensures), omega arith)
+    let counted = told-counts (at-clear word) in
+    let most = clamp-most maxNames (at-start counted .args .t2 .names) in
+    let count = counted .before .before .name-count .ensures in
+    (room-third (field modelWord comma) (header counted newline) (lines counted) (clear-room (at-clear word)) (word .put-word .ensures) (head .put-counts .ensures), omega arith)
 
 same-length : tie.Need-same-length
 same-length c = search needs

@@ -1,0 +1,127 @@
+-- How many rounds a model takes. Each round before the I(k) stand still takes a head in, so they stand still after at most as many rounds as there are
+-- distinct heads; from there on each of them is M.
+use mathlib.Core.Path.{_≡_, refl, sym, _∙_, ap}
+use mathlib.Core.Logic.{_⊎_, inl, inr, ⊎-elim, _↔_}
+use mathlib.Core.Bool.{Bool, true, false, not, cond, _||_}
+use mathlib.Core.List.{List, [], _∷_, List·Memᴰ·head, List·Memᴰ·tail}
+use Prim.Native.Nat.{ℕ, zero, suc, _+_, _-_, _≤_, _<_}
+use native.Mathlib.Nat.{le-refl, le-trans, le-antisymm}
+use native.Mathlib.Numerals.{unary-clauses}
+use native.Mathlib.Decide.{ℕ-discrete}
+use native.Mathlib.Omega.{arith}
+use lib.ListN.{length}
+use borrow.Author.Tests.{not-true}
+use Rattle.wfsx.specs.Sets.{Set, _∈_, _isIn_, members}
+use Rattle.wfsx.specs.Program.{Rule, Program}
+use Rattle.wfsx.specs.Model.{Γ, Γs, headed, I, M}
+use Rattle.wfsx.specs.Rounds.{Still, LeastStill, distinctHeads, hasHeads, firstStill, rounds}
+use Rattle.truth.proofs.Truth.{clash, decided, not-intro, and-l, and-r, and-intro, or-elim, or-l, or-r}
+use Rattle.wfsx.proofs.Sets.{⊆-antisym}
+use Rattle.wfsx.proofs.Members.{members-are, length-most}
+use Rattle.wfsx.proofs.Chain.{chain-stops}
+use Rattle.wfsx.proofs.Supported.{heads, heads-most, supported-head}
+use Rattle.wfsx.proofs.Operators.{Γ-head, ΓΓs, ΓΓs-monotone, I-next, I-grows, I⊆M, M-least}
+
+-- ---- the test of the heads
+
+has-heads : (P : Program) (S U : Set) → (hasHeads P S U ≡ true) ↔ ((A : ℕ) → A isIn heads P → A ∈ U → A ∈ S)
+unfolding hasHeads
+has-heads [] S U = (λ e A m u. elim m [ ], λ f. refl)
+has-heads (r ∷ P) S U =
+    let rest = has-heads P S U in
+    let here = S (r .head) || not (U (r .head)) in
+    (λ e. each (and-l here _ e) (rest .0 (and-r here _ e)), λ f. and-intro here _ (go f (decided (U (r .head)))) (rest .1 (λ A m. f A (List·Memᴰ·tail m))))
+  where
+    each : S (r .head) || not (U (r .head)) ≡ true → ((A : ℕ) → A isIn heads P → A ∈ U → A ∈ S) → (A : ℕ) → A isIn heads (r ∷ P) → A ∈ U → A ∈ S
+    each h rest A (List·Memᴰ·head e) u = rw e (⊎-elim (λ s. s) (λ n. absurd (clash (rw e at u) (not-true (U (r .head)) n))) (or-elim (S (r .head)) _ h))
+    each h rest A (List·Memᴰ·tail m) u = rest A m u
+
+    go : ((A : ℕ) → A isIn heads (r ∷ P) → A ∈ U → A ∈ S) → (r .head ∈ U) ⊎ (U (r .head) ≡ false) → S (r .head) || not (U (r .head)) ≡ true
+    go f (inl u) = or-l (S (r .head)) _ (f (r .head) (List·Memᴰ·head refl) u)
+    go f (inr u) = or-r (S (r .head)) _ (not-intro u)
+
+-- the list of distinct heads has every head
+distinct-all : (P : Program) (A : ℕ) → A isIn heads P → A isIn distinctHeads P
+unfolding distinctHeads
+distinct-all (r ∷ P) A m = go (distinct-all P A) (headed P (r .head)) refl m
+  where
+    go : (A isIn heads P → A isIn distinctHeads P) → (b : Bool) → headed P (r .head) ≡ b → A isIn heads (r ∷ P)
+        → A isIn cond b (distinctHeads P) (r .head ∷ distinctHeads P)
+    go rest true e (List·Memᴰ·head q) = rest (rw q (supported-head P (λ _. true) (r .head) e))
+    go rest true e (List·Memᴰ·tail i) = rest i
+    go rest false e (List·Memᴰ·head q) = List·Memᴰ·head q
+    go rest false e (List·Memᴰ·tail i) = List·Memᴰ·tail (rest i)
+
+module _ (P : Program) where
+  -- ---- where I stands still
+
+  still-test : (k : ℕ) → (hasHeads P (I P k) (I P (suc k)) ≡ true) ↔ Still P k
+  still-test k =
+      let test = has-heads P (I P k) (I P (suc k)) in
+      (λ e. ⊆-antisym (I-grows P k) (λ A a. test .0 e A (Γ-head P (Γs P (I P k)) A (rw (I-next P k) at a)) a), λ s. test .1 (λ A m a. rw s a))
+
+  still-next : (k : ℕ) → Still P k → Still P (suc k)
+  still-next k s = I-next P k ∙ ap (λ (S : Set). Γ P (Γs P S)) s ∙ sym (I-next P (suc k))
+
+  still-on : (k n : ℕ) → Still P k → Still P (k + n)
+  still-on k zero s = simp unary-clauses s
+  still-on k (suc n) s = simp unary-clauses (still-next (k + n) (still-on k n s))
+
+  -- after as many rounds as a list with all the heads has entries
+  still-within : (H : List ℕ) → ((A : ℕ) → A isIn heads P → A isIn H) → (n : ℕ) → length H ≤ n → Still P n
+  unfolding I
+  still-within H all n h = chain-stops (ΓΓs P) (ΓΓs-monotone P) H (λ S A a. all A (Γ-head P (Γs P S) A a)) n h
+
+  still-is-M : (k : ℕ) → Still P k → I P k ≡ M P
+  still-is-M k s = ⊆-antisym (I⊆M P k) (M-least P (I P k) (λ A a. rw (s, I-next P k) a))
+
+  -- ---- the least such number
+
+  -- where I stands still at the end of the n numbers from k on, b is the first of them at which it does
+  abbrev FirstFrom : ℕ → ℕ → Type 0
+  FirstFrom k b = Still P b × ((j : ℕ) → k ≤ j → Still P j → b ≤ j)
+
+  first-still : (k n : ℕ) → Still P (k + n) → FirstFrom k (firstStill P k n)
+  unfolding firstStill
+  first-still k zero s = (simp unary-clauses at s, λ j h _. h)
+  first-still k (suc n) s =
+      let turn : suc k + n ≡ k + suc n = omega arith in
+      go (first-still (suc k) n (rw turn s)) (hasHeads P (I P k) (I P (suc k))) refl
+    where
+      go : FirstFrom (suc k) (firstStill P (suc k) n) → (b : Bool) → hasHeads P (I P k) (I P (suc k)) ≡ b → FirstFrom k (cond b k (firstStill P (suc k) n))
+      go rest true e = (still-test k .0 e, λ j h _. h)
+      go rest false e = (rest .0, λ j h s. rest .1 j (later j h (ℕ-discrete j k) s) s)
+        where
+          later : (j : ℕ) → k ≤ j → Dec (j ≡ k) → Still P j → suc k ≤ j
+          later j h (yes q) s = absurd (clash (still-test k .1 (rw q at s)) e)
+          later j h (no ne) s = omega arith
+
+  -- the number worked out is the least k with I(k) = I(k + 1), so there is one
+  pub rounds-are : LeastStill P (rounds P)
+  unfolding rounds
+  rounds-are =
+      let found = first-still 0 (length P) (still-within (heads P) (λ A m. m) (0 + length P) (omega (arith, heads-most P))) in
+      record { still = found .0; least = λ j s. found .1 j (omega arith) s }
+
+  -- and the only one
+  pub rounds-only : (k : ℕ) → LeastStill P k → k ≡ rounds P
+  rounds-only k l = le-antisymm (l .least (rounds P) (rounds-are .still)) (rounds-are .least k (l .still))
+
+  pub rounds-within : (H : List ℕ) → ((A : ℕ) → A isIn heads P → A isIn H) → rounds P ≤ length H
+  rounds-within H all = rounds-are .least (length H) (still-within H all (length H) (le-refl (length H)))
+
+  -- never above the count of distinct heads
+  pub rounds-most : rounds P ≤ length (distinctHeads P)
+  rounds-most = rounds-within (distinctHeads P) (distinct-all P)
+
+  -- so never above a number that is above every head
+  pub rounds-below : (n : ℕ) → ((A : ℕ) → A isIn heads P → A < n) → rounds P ≤ n
+  rounds-below n below =
+      le-trans (rounds-within (members n (λ _. true)) (λ A m. members-are n (λ _. true) A .1 (refl, below A m))) (length-most (λ _. true) 0 n)
+
+  -- from there on I stands still, and is M
+  pub M-from-rounds : (j : ℕ) → rounds P ≤ j → I P j ≡ M P
+  M-from-rounds j h =
+      let k = rounds P in
+      let there : k + (j - k) ≡ j = omega arith in
+      rw there at (still-is-M (k + (j - k)) (still-on k (j - k) (rounds-are .still)))
