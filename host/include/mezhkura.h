@@ -4,8 +4,9 @@
  * is turned down returns the desk as it was, and changes no byte of a lent buffer. Every bit pattern of a struct
  * has a meaning, so a call has no condition on its arguments but that pointers and counts belong together.
  *
- * A load, and a change of the facts, works out M and N and leaves them in the lesson. Verdict, model and listing
- * read the sets that the last change or load left there, so a screen of verdicts after one fact costs one model.
+ * A load, and a change of the facts, works out M and N and leaves them in the lesson, with the rounds that it took.
+ * Verdict, model and listing read what the last change or load left there, so a screen of verdicts after one fact
+ * costs one model.
  *
  * number: 0 if the call is accepted; 1 to 9 for a refused file; 20 no book is loaded; 21 no such literal; 22 put
  * in now; 23 not put in; 24 contradictory; 25 buffer too short.
@@ -49,10 +50,14 @@ typedef struct {
 } mezhkura_book;
 
 /* M, the literals that are true, and N, those that aren't false. It is written `struct mezhkura_model`, since
- * the name alone is that of the call. */
+ * the name alone is that of the call.
+ *
+ * rounds: the least k with I(k) = I(k + 1), where I(0) is empty and I(k + 1) = Gamma(Gamma_s(I(k))). That I(k) is M.
+ * It is never above the count of distinct heads of the rules and the facts put in. */
 struct mezhkura_model {
     mezhkura_litset truths;
     mezhkura_litset nonfalse;
+    size_t rounds;
 };
 
 /* The place of one book: 0 in `loaded` says that none is there. */
@@ -61,8 +66,8 @@ typedef struct {
     mezhkura_book book;
 } mezhkura_shelf;
 
-/* A lesson beside a book: the facts put in, and M and N of the book with these facts. The sets in `model` are
- * the engine's own: a caller who writes them gets the verdicts of what was written. */
+/* A lesson beside a book: the facts put in, and M, N and the rounds of the book with these facts. What stands in
+ * `model` is the engine's own: a caller who writes it gets the verdicts and the rounds of what was written. */
 typedef struct {
     mezhkura_litset facts;
     struct mezhkura_model model;
@@ -111,12 +116,14 @@ typedef struct {
     uint8_t holds;
 } mezhkura_search_reply;
 
-/* M, N, and 1 where the lesson is contradictory. */
+/* M, N, 1 where the lesson is contradictory, and the rounds of `struct mezhkura_model`. A call that is turned down
+ * gives empty sets and 0 rounds. */
 typedef struct {
     uint8_t number;
     uint8_t contradictory;
     mezhkura_litset truths;
     mezhkura_litset nonfalse;
+    size_t rounds;
 } mezhkura_model_reply;
 
 typedef struct {

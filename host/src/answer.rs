@@ -54,6 +54,8 @@ pub struct Model {
     pub nonfalse: BTreeSet<usize>,
     /// Whether the lesson is contradictory.
     pub contradictory: bool,
+    /// How many rounds M takes: the least k with I(k) = I(k + 1).
+    pub rounds: usize,
 }
 
 /// Names of one book (document 01, "The marking file").

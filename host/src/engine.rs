@@ -22,7 +22,7 @@
 //!
 //! let mut buffer = [0; 200];
 //! let length = desk.listing(&mut buffer)?;
-//! assert_eq!(&buffer[..length], b"model,2,1,1\n0,brake_held,true,false\n1,may_park,true,false\n");
+//! assert_eq!(&buffer[..length], b"model,2,1,1,1\n0,brake_held,true,false\n1,may_park,true,false\n");
 //! # Ok::<(), Refused>(())
 //! ```
 
@@ -50,8 +50,8 @@ pub fn size(file: &[u8]) -> Result<BookSize, Refused> {
 
 /// A desk: a marking book, once one is loaded, and a lesson beside it.
 ///
-/// The lesson is the facts put in, with M and N of the book and these facts. A load and a change of the
-/// facts work M and N out; a verdict, the model call and a listing read them. A call that is turned down
+/// The lesson is the facts put in, with M, N and the rounds of the book and these facts. A load and a change
+/// of the facts work them out; a verdict, the model call and a listing read them. A call that is turned down
 /// leaves the desk, and every byte of a lent buffer, as it was.
 #[derive(Clone, PartialEq, Eq)]
 pub struct Desk(Box<exports::Desk>);
@@ -110,7 +110,7 @@ impl Desk {
         Ok(reply.holds != 0)
     }
 
-    /// M, N, and whether the lesson is contradictory. Refused with 20.
+    /// M, N, whether the lesson is contradictory, and how many rounds M takes. Refused with 20.
     pub fn model(&self) -> Result<Model, Refused> {
         let reply = unsafe { exports::mezhkura_model(*self.0) };
         accepted(reply.number, 0)?;
@@ -118,6 +118,7 @@ impl Desk {
             truths: members(reply.truths),
             nonfalse: members(reply.nonfalse),
             contradictory: reply.contradictory != 0,
+            rounds: reply.rounds,
         })
     }
 
@@ -143,6 +144,7 @@ impl fmt::Debug for Desk {
             .field("facts", &members(lesson.facts))
             .field("truths", &members(lesson.model.truths))
             .field("nonfalse", &members(lesson.model.nonfalse))
+            .field("rounds", &lesson.model.rounds)
             .finish()
     }
 }
@@ -217,7 +219,11 @@ impl Calls for Desk {
             entries,
         } = book;
         let exports::Lesson { facts, model } = lesson;
-        let exports::Model { truths, nonfalse } = model;
+        let exports::Model {
+            truths,
+            nonfalse,
+            rounds,
+        } = model;
         let mut bytes = vec![*loaded];
         bytes.extend(names.to_le_bytes());
         bytes.extend(rules.to_le_bytes());
@@ -227,6 +233,7 @@ impl Calls for Desk {
         bytes.extend(tables.flat_map(|number| number.to_le_bytes()));
         let words = [facts, truths, nonfalse].map(|set| set.words);
         bytes.extend(words.into_iter().flatten().flat_map(u64::to_le_bytes));
+        bytes.extend(rounds.to_le_bytes());
         bytes
     }
 }
@@ -234,6 +241,12 @@ impl Calls for Desk {
 #[cfg(test)]
 mod tests {
     use super::*;
+
+    fn listed(desk: &Desk) -> String {
+        let mut buffer = [0; 100];
+        let length = desk.listing(&mut buffer).expect("the buffer is long");
+        String::from_utf8(buffer[..length].to_vec()).expect("a listing is ASCII")
+    }
 
     /// Sets that no call left show who reads them: verdicts do, a refused call leaves them, and a change
     /// of the facts works them out.
@@ -259,5 +272,32 @@ mod tests {
         assert_eq!(desk.verdict(1), Ok(Verdict::True));
         assert_eq!(desk.take_out(1), Ok(()));
         assert_eq!(desk.state(), loaded);
+    }
+
+    /// The same of rounds: the model call and both headers have the number that stands, whatever it is.
+    #[test]
+    fn rounds_are_those_that_stand() {
+        let mut desk = Desk::fresh();
+        desk.load(b"name,a\nend\n").expect("the book loads");
+        let loaded = desk.state();
+        for rounds in [1, 10, 256, 257, 1 << 32, usize::MAX] {
+            desk.0.lesson.model.rounds = rounds;
+            assert!(desk.state() != loaded);
+            assert!(format!("{desk:?}").contains(&format!("rounds: {rounds} ")));
+            assert_eq!(desk.model().map(|model| model.rounds), Ok(rounds));
+            assert_eq!(
+                listed(&desk),
+                format!("model,1,0,0,{rounds}\n0,a,false,false\n")
+            );
+            assert_eq!(desk.put_in(2), Err(Refused::NoSuchLiteral));
+            assert_eq!(desk.model().map(|model| model.rounds), Ok(rounds));
+            let mut clash = desk.clone();
+            clash.0.lesson.model.truths.words[0] = 3;
+            assert_eq!(listed(&clash), format!("contradiction,1,0,0,{rounds},a\n"));
+            assert_eq!(desk.put_in(1), Ok(()));
+            assert_eq!(desk.model().map(|model| model.rounds), Ok(1));
+            assert_eq!(desk.take_out(1), Ok(()));
+            assert_eq!(desk.state(), loaded);
+        }
     }
 }

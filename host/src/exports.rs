@@ -27,12 +27,14 @@ pub struct Book {
     pub entries: [u16; MOST_BODY_LITERALS],
 }
 
-/// M, the literals that are true, and N, those that aren't false.
+/// M, the literals that are true, N, those that aren't false, and how many rounds M takes: the least k with
+/// I(k) = I(k + 1).
 #[repr(C)]
 #[derive(Clone, Copy, PartialEq, Eq)]
 pub struct Model {
     pub truths: LitSet,
     pub nonfalse: LitSet,
+    pub rounds: usize,
 }
 
 /// The place of one book: 0 in `loaded` says that none is there.
@@ -43,8 +45,8 @@ pub struct Shelf {
     pub book: Book,
 }
 
-/// A lesson beside a book: the facts put in, and M and N of the book with these facts. A load and a
-/// change of the facts work M and N out; they stand until the next one.
+/// A lesson beside a book: the facts put in, and the model of the book with these facts. A load and a
+/// change of the facts work the model out; it stands until the next one.
 #[repr(C)]
 #[derive(Clone, Copy, PartialEq, Eq)]
 pub struct Lesson {
@@ -103,13 +105,15 @@ pub struct SearchReply {
     pub holds: u8,
 }
 
-/// The reply to the model call: M, N, and 1 where the lesson is contradictory.
+/// The reply to the model call: M, N, 1 where the lesson is contradictory, and the rounds that M takes. A
+/// call that is turned down gives empty sets and 0 rounds.
 #[repr(C)]
 pub struct ModelReply {
     pub number: u8,
     pub contradictory: u8,
     pub truths: LitSet,
     pub nonfalse: LitSet,
+    pub rounds: usize,
 }
 
 /// The reply to a listing.
@@ -123,16 +127,16 @@ pub struct ListingReply {
 const _: () = {
     assert!(size_of::<LitSet>() == 32);
     assert!(size_of::<Book>() == 8344);
-    assert!(size_of::<Model>() == 64);
+    assert!(size_of::<Model>() == 72);
     assert!(size_of::<Shelf>() == 8352);
-    assert!(size_of::<Lesson>() == 96);
-    assert!(size_of::<Desk>() == 8448);
+    assert!(size_of::<Lesson>() == 104);
+    assert!(size_of::<Desk>() == 8456);
     assert!(size_of::<SizeReply>() == 40);
-    assert!(size_of::<LoadReply>() == 8464);
-    assert!(size_of::<ChangeReply>() == 8456);
+    assert!(size_of::<LoadReply>() == 8472);
+    assert!(size_of::<ChangeReply>() == 8464);
     assert!(size_of::<VerdictReply>() == 2);
     assert!(size_of::<SearchReply>() == 2);
-    assert!(size_of::<ModelReply>() == 72);
+    assert!(size_of::<ModelReply>() == 80);
     assert!(size_of::<ListingReply>() == 16);
 };
 

@@ -1,7 +1,7 @@
 //! Books, files and lists of calls from a seed. The same seed gives the same values everywhere.
 
 use crate::answer::{Question, Tree};
-use crate::second::{Book, Entry, Rule};
+use crate::second::{complement, Book, Entry, Rule};
 use crate::second::{MOST_BODY_LITERALS, MOST_IN_A_BODY, MOST_NAMES, MOST_RULES};
 use std::fmt;
 
@@ -195,6 +195,107 @@ pub fn long_model_book() -> Book {
     book
 }
 
+/// A book whose model takes as many rounds as it has distinct heads, which are all its literals. With n
+/// names these are x 0 to x (2n - 1): the names, and behind them their explicit negations. It is
+/// contradictory.
+///
+/// The first rule is the fact x 0. Each x (j + 1) follows from `not` of the complement of x j, and each x
+/// but the first from `not` of its own complement. So Γs(S) has every x but the complements of S, and Γ of
+/// that has x 0, S, and for each x j of S also x (j + 1). From x 0 to x j that is one literal more, so each
+/// round adds one until all are there.
+pub fn bound_book(names: usize) -> Book {
+    assert!((1..=MOST_NAMES).contains(&names));
+    let x: Vec<usize> = (0..names)
+        .map(|n| 2 * n)
+        .chain((0..names).map(|n| 2 * n + 1))
+        .collect();
+    let unless = |head, shown| Rule {
+        head,
+        body: vec![default(complement(shown))],
+    };
+    let mut rules = vec![fact(x[0])];
+    rules.extend(x.windows(2).map(|pair| unless(pair[1], pair[0])));
+    rules.extend(x[1..].iter().map(|&literal| unless(literal, literal)));
+    Book {
+        names: (0..names).map(name).collect(),
+        rules,
+    }
+}
+
+/// A book whose model takes a round for each name. It isn't contradictory, and no such book takes more: a
+/// round adds a literal to M, which has at most one literal of each name.
+///
+/// The first rule is the fact name 0. Each name but the last is shown not to be unless it is shown, and the
+/// next name follows unless that is so. So Γs(S) has all names, and `-` of those outside S but for the last
+/// name; and Γ of that has name 0 and the name behind each name of S. From the first names that is one more,
+/// so each round adds one name.
+pub fn rounds_book(names: usize) -> Book {
+    assert!((1..=MOST_NAMES).contains(&names));
+    let mut rules = vec![fact(0)];
+    for n in 0..names - 1 {
+        for literal in [2 * n, 2 * n + 1] {
+            rules.push(Rule {
+                head: literal + 1,
+                body: vec![default(literal)],
+            });
+        }
+    }
+    Book {
+        names: (0..names).map(name).collect(),
+        rules,
+    }
+}
+
+/// One of the two books above with few names, in which some rules stand in other places and some are left
+/// out, so that there are more counts of rounds to meet. A random book seldom takes more than three.
+pub fn book_with_rounds(random: &mut Random) -> Book {
+    let names = random.between(2, 12);
+    let mut book = random.pick(&[bound_book, rounds_book])(names);
+    for _ in 0..random.below(4) {
+        let rules = book.rules.len();
+        book.rules.swap(random.below(rules), random.below(rules));
+    }
+    for _ in 0..random.below(3) {
+        book.rules.remove(random.below(book.rules.len()));
+    }
+    book
+}
+
+/// A book whose model takes long: there are many rounds, and each takes many passes over many rules. It is
+/// contradictory.
+///
+/// Half of the names are those of [`bound_book`], and make a round for each of their literals. The literals
+/// of the other half, but the last, follow from each other. The first of them is its own exception, so all
+/// are undefined: no round keeps one of them, and the next round has to find them again. A literal's rule
+/// stands before the rule of the literal that it follows from, so that a pass over the rules in their order
+/// adds one of them. The rules behind them have the last literal as head and in the last place of the body,
+/// so they never apply, and a pass looks at their bodies to the end.
+///
+/// Of the splits that were tried, half and half takes the engine longest.
+pub fn slow_book() -> Book {
+    let mut book = bound_book(MOST_NAMES / 2);
+    let first = book.literals();
+    book.names = (0..MOST_NAMES).map(name).collect();
+    let last = book.literals() - 1;
+    book.rules.extend((first + 1..last).rev().map(|head| Rule {
+        head,
+        body: vec![objective(head - 1)],
+    }));
+    book.rules.push(Rule {
+        head: first,
+        body: vec![default(first)],
+    });
+    let mut room = MOST_BODY_LITERALS - book.body_literals();
+    while room > 0 && book.rules.len() < MOST_RULES {
+        let length = room.min(MOST_IN_A_BODY);
+        let mut body = vec![default(last); length - 1];
+        body.push(objective(last));
+        book.rules.push(Rule { head: last, body });
+        room -= length;
+    }
+    book
+}
+
 /// A book whose TU-search of literal 0 is about n squared nodes deep and visits few more nodes.
 ///
 /// Names x 0 to x (n - 1) follow from each other, the last of them from `not` of every y and from a
@@ -313,6 +414,13 @@ fn respell(random: &mut Random, field: &mut [u8]) {
         if capital {
             letter.make_ascii_uppercase();
         }
+    }
+}
+
+fn fact(head: usize) -> Rule {
+    Rule {
+        head,
+        body: Vec::new(),
     }
 }
 

@@ -1,14 +1,20 @@
 //! On random small books: the searches agree with M and N, M and N with the published notions and with
-//! the answer sets, capitals make no other names, and the comparison of two desks finds wrong ones.
+//! the answer sets, the rounds are those of the definition, capitals make no other names, and the
+//! comparison of two desks finds wrong ones.
 
+mod families;
+
+use families::known_rounds;
 use mezhkura::accord::{accords, Accord};
 use mezhkura::answer::{BookSize, Fault, Model, Question, Refused, Tree, Verdict};
 use mezhkura::compare::{agree, answer_by_model, explain, models_stand, questions};
 use mezhkura::compare::{Asked, Calls, Stood, MOST_VISITS};
-use mezhkura::gen::{self, Random, Size, MIDDLE, SMALL};
+use mezhkura::gen::{self, Random, Size, FULL, MIDDLE, SMALL};
 use mezhkura::second::{contradictory_name, every_set, gamma, program_output, read, search, size};
-use mezhkura::second::{Book, Desk, Program, Walk};
+use mezhkura::second::{Book, Desk, Program, Rule, Walk};
+use mezhkura::second::{MOST_BODY_LITERALS, MOST_NAMES};
 use std::collections::BTreeSet;
+use std::iter::successors;
 
 /// The seed of the random books; another can be set by hand.
 fn seed() -> u64 {
@@ -35,8 +41,8 @@ fn file_of(desk: &Desk) -> String {
     format!("{}facts {:?}", book.to_file(), desk.facts())
 }
 
-/// A desk with a large book and some facts put in.
-fn large_desk(random: &mut Random, book: &Book) -> Desk {
+/// A desk with this book and some facts put in.
+fn desk_with_facts(random: &mut Random, book: &Book) -> Desk {
     let mut desk = Desk::fresh();
     desk.load(book.to_file().as_bytes())
         .expect("a generated book loads");
@@ -99,7 +105,7 @@ fn short_searches_of_large_books_agree_with_m_and_n() {
     let mut random = Random::new(seed() + 4);
     let mut books = gen::shaped_books();
     books.extend((0..10).map(|_| gen::full_book(&mut random)));
-    let desks = books.iter().map(|book| large_desk(&mut random, book));
+    let desks = books.iter().map(|book| desk_with_facts(&mut random, book));
     let tally = searches_of(desks, MOST_VISITS);
     assert!(0 < tally.not_ended && tally.not_ended * 4 < tally.asked * 3);
 }
@@ -141,8 +147,7 @@ fn model_is_the_published_one() {
     let mut random = Random::new(seed() + 1);
     for _ in 0..400 {
         let desk = random_desk(&mut random, size);
-        let book = desk.book().expect("a book is loaded");
-        check_model(&Program::new(book, desk.facts()), &file_of(&desk));
+        check_model(&program_of(&desk), &file_of(&desk));
     }
 }
 
@@ -174,6 +179,144 @@ fn check_model(program: &Program, file: &str) {
     );
     let has_model = every_set(program.literals).any(|s| partial_stable(program, &s));
     assert_eq!(has_model, contradictory_name(&halves).is_none(), "{}", file);
+}
+
+/// The program that a desk with a book has.
+fn program_of(desk: &Desk) -> Program {
+    Program::new(desk.book().expect("a book is loaded"), desk.facts())
+}
+
+/// I(0), I(1) and so on, two more than the program has rules.
+fn rounds_one_by_one(program: &Program) -> Vec<Vec<bool>> {
+    let seminormal = program.seminormal();
+    let next = |set: &Vec<bool>| Some(gamma(program, &gamma(&seminormal, set)));
+    successors(Some(vec![false; program.literals]), next)
+        .take(program.rules.len() + 2)
+        .collect()
+}
+
+/// The literals that are the head of a rule.
+fn distinct_heads(rules: &[Rule]) -> usize {
+    let heads: BTreeSet<usize> = rules.iter().map(|rule| rule.head).collect();
+    heads.len()
+}
+
+/// Document 02, A.10: the rounds are the least k with I(k) = I(k + 1), from there on every I is M, and they
+/// are never above the count of distinct heads, put-in facts included. Without a contradiction they aren't
+/// above the count of names either. Answers the rounds.
+fn check_rounds(desk: &Desk) -> usize {
+    let program = program_of(desk);
+    let sets = rounds_one_by_one(&program);
+    let least = (0..sets.len() - 1).find(|&k| sets[k] == sets[k + 1]);
+    let halves = program.halves();
+    let file = file_of(desk);
+    assert_eq!(Some(halves.rounds), least, "{file}");
+    let from_there = &sets[halves.rounds..];
+    assert!(from_there.iter().all(|set| *set == halves.truths), "{file}");
+    assert!(halves.rounds <= distinct_heads(&program.rules), "{file}");
+    let contradictory = contradictory_name(&halves).is_some();
+    assert!(
+        contradictory || 2 * halves.rounds <= program.literals,
+        "{file}"
+    );
+    assert_eq!(
+        desk.model().map(|model| model.rounds),
+        Ok(halves.rounds),
+        "{file}"
+    );
+    halves.rounds
+}
+
+#[test]
+fn rounds_are_those_of_the_definition() {
+    let mut random = Random::new(seed() + 7);
+    // How many desks have how many rounds.
+    let mut met = [0usize; 2 * MOST_NAMES + 1];
+    for (desks, size) in [(2_000, SMALL), (500, MIDDLE), (10, FULL)] {
+        for _ in 0..desks {
+            met[check_rounds(&random_desk(&mut random, size))] += 1;
+        }
+    }
+    for _ in 0..2_000 {
+        let book = gen::book_with_rounds(&mut random);
+        met[check_rounds(&desk_with_facts(&mut random, &book))] += 1;
+    }
+    let few = &met[..=24];
+    println!("{few:?}");
+    assert!(few[..13].iter().all(|&desks| desks > 5), "{few:?}");
+}
+
+/// The header of a desk's listing.
+fn header_of(desk: &Desk) -> String {
+    let mut buffer = [0; 8192];
+    let length = desk.listing(&mut buffer).expect("the buffer is long");
+    let text = String::from_utf8_lossy(&buffer[..length]);
+    text.lines().next().expect("a header").to_string()
+}
+
+#[test]
+fn rounds_are_known_for_every_count_of_names() {
+    for known in known_rounds() {
+        let mut desk = Desk::fresh();
+        desk.load(known.book.to_file().as_bytes())
+            .expect("the book loads");
+        for &fact in &known.facts {
+            desk.put_in(fact).expect("the fact is out");
+        }
+        assert_eq!(check_rounds(&desk), known.rounds, "{}", known.header);
+        assert_eq!(header_of(&desk), known.header);
+        let of_rules = distinct_heads(&known.book.rules);
+        assert_eq!(of_rules < known.rounds, !known.facts.is_empty());
+    }
+}
+
+/// The books with most rounds reach the bound: each of their literals is a head and takes a round.
+#[test]
+fn rounds_reach_the_count_of_distinct_heads() {
+    for names in 1..=MOST_NAMES {
+        let book = gen::bound_book(names);
+        let program = Program::new(&book, &BTreeSet::new());
+        assert_eq!(program.halves().rounds, distinct_heads(&program.rules));
+        assert_eq!(program.halves().rounds, book.literals());
+    }
+}
+
+/// How many passes over the rules in their order add a literal to Γs(S).
+fn passes(program: &Program, s: &[bool]) -> usize {
+    let seminormal = program.seminormal();
+    let mut closed = vec![false; program.literals];
+    for pass in 0.. {
+        let before = closed.clone();
+        for rule in &seminormal.rules {
+            let holds = rule.body.iter().all(|entry| {
+                if entry.default {
+                    !s[entry.literal]
+                } else {
+                    closed[entry.literal]
+                }
+            });
+            closed[rule.head] |= holds;
+        }
+        if closed == before {
+            return pass;
+        }
+    }
+    unreachable!("a set can't grow for ever");
+}
+
+/// The slow book has a round for each literal of half of its names, and in each round a pass for each literal
+/// of the other half but the last.
+#[test]
+fn the_slow_book_has_many_rounds_of_many_passes() {
+    let book = gen::slow_book();
+    assert_eq!(book.body_literals(), MOST_BODY_LITERALS);
+    let program = Program::new(&book, &BTreeSet::new());
+    let halves = program.halves();
+    assert_eq!(halves.rounds, MOST_NAMES);
+    let sets = rounds_one_by_one(&program);
+    for set in &sets[..=halves.rounds] {
+        assert_eq!(passes(&program, set), MOST_NAMES - 1);
+    }
 }
 
 /// The first field of a line, and the rest of it from the first comma on.
@@ -243,6 +386,29 @@ impl Wrong {
             How::ListsTheLastSpelling if read(file).is_ok() => Ok(declared_as_last_used(file)),
             _ => Ok(file.to_vec()),
         }
+    }
+
+    /// A desk with the same book and no facts.
+    fn without_facts(&self) -> Result<Desk, Refused> {
+        let mut desk = Desk::fresh();
+        if let Some(book) = self.desk.book() {
+            desk.load(book.to_file().as_bytes())?;
+        }
+        Ok(desk)
+    }
+
+    /// The listing with a wrong header, of which fields 3 and 4 are FACTS and ROUNDS.
+    fn misheaded(&self) -> Result<String, Refused> {
+        let mut buffer = vec![0; 8192];
+        let length = self.desk.listing(&mut buffer)?;
+        let text = String::from_utf8_lossy(&buffer[..length]);
+        let (header, lines) = text.split_once('\n').expect("the header is a line");
+        let mut fields: Vec<String> = header.split(',').map(str::to_string).collect();
+        match self.how {
+            How::ListsRoundsBeforeFacts => fields.swap(3, 4),
+            _ => fields[4] = self.model()?.rounds.to_string(),
+        }
+        Ok(format!("{}\n{lines}", fields.join(",")))
     }
 }
 
@@ -317,6 +483,9 @@ enum How {
     RefusedPutInTakesOut,
     TakenOutStaysInTheModel,
     KeepsTheLastPutIn,
+    CountsTheConfirmingRound,
+    RoundsOfTheBookAlone,
+    ListsRoundsBeforeFacts,
 }
 
 impl Calls for Wrong {
@@ -388,19 +557,20 @@ impl Calls for Wrong {
     fn model(&self) -> Result<Model, Refused> {
         let mut modelled = self.desk.clone();
         match (self.how, self.last) {
-            (How::ModelOfTheBookAlone, _) => {
-                modelled = Desk::fresh();
-                if let Some(book) = self.desk.book() {
-                    modelled.load(book.to_file().as_bytes())?;
-                }
-            }
+            (How::ModelOfTheBookAlone, _) => modelled = self.without_facts()?,
             (How::TakenOutStaysInTheModel, Some(last)) => {
                 // Where the literal wasn't taken out this is refused: that is no matter.
                 let _ = modelled.put_in(last);
             }
             _ => {}
         }
-        modelled.model()
+        let mut model = modelled.model()?;
+        match self.how {
+            How::CountsTheConfirmingRound => model.rounds += 1,
+            How::RoundsOfTheBookAlone => model.rounds = self.without_facts()?.model()?.rounds,
+            _ => {}
+        }
+        Ok(model)
     }
 
     fn listing(&self, buffer: &mut [u8]) -> Result<usize, Refused> {
@@ -418,6 +588,15 @@ impl Calls for Wrong {
                 let written = self.desk.listing(buffer)?;
                 buffer[written..].fill(0);
                 Ok(written)
+            }
+            How::CountsTheConfirmingRound
+            | How::RoundsOfTheBookAlone
+            | How::ListsRoundsBeforeFacts => {
+                let text = self.misheaded()?;
+                let lent = buffer.get_mut(..text.len());
+                lent.ok_or(Refused::BufferTooShort)?
+                    .copy_from_slice(text.as_bytes());
+                Ok(text.len())
             }
             _ => self.desk.listing(buffer),
         }
@@ -507,6 +686,19 @@ fn desks_that_are_wrong_about_capitals_are_found() {
         let text = assert_found(how, random_lists(how, 2_000));
         assert!(text.contains(difference), "{how:?}: {text}");
     }
+}
+
+/// Rounds are in two answers, that of the model call and the listing. Each is looked at for itself.
+#[test]
+fn desks_that_are_wrong_about_rounds_are_found() {
+    for how in [How::CountsTheConfirmingRound, How::RoundsOfTheBookAlone] {
+        assert_found(how, random_lists(how, 2_000));
+        assert_found(how, random_models(how, 2_000));
+    }
+    let how = How::ListsRoundsBeforeFacts;
+    let text = assert_found(how, random_lists(how, 2_000));
+    assert!(text.contains("(listing, "), "{text}");
+    assert!(random_models(how, 500).is_ok());
 }
 
 /// After how many calls of so many lists the model was looked at, or a list after which it doesn't stand.

@@ -36,7 +36,7 @@ fn refused(number: u8, line: usize) -> String {
 
 fn assert_loads(file: &str, names: usize, rules: usize) {
     let output = program_output(file.as_bytes());
-    let header = format!("model,{names},{rules},0\n");
+    let header = format!("model,{names},{rules},0,");
     assert!(output.starts_with(&header), "{output}");
     let size = size(file.as_bytes()).expect("what loads is sized");
     assert_eq!((size.names, size.rules), (names, rules), "{file}");
@@ -188,7 +188,7 @@ fn assert_output(file: &[u8], expected: &str) {
 #[test]
 fn a_declared_name_has_letters_and_behind_the_first_digits_and_underscores() {
     for byte in 0..=255u8 {
-        let listed = |name: &str| format!("model,1,0,0\n0,{name},false,false\n");
+        let listed = |name: &str| format!("model,1,0,0,0\n0,{name},false,false\n");
         let spelt = char::from(byte);
         let first = match byte {
             b'A'..=b'Z' | b'a'..=b'z' => listed(&format!("{spelt}")),
@@ -392,12 +392,12 @@ fn number_7_is_given_for_no_other_capitals_than_the_declaration() {
 fn the_listing_has_the_spelling_of_the_declaring_line() {
     let lines = "name,Brake_Held\nname,MAY_PARK\nname,chocks_set\n\
         rule,BRAKE_HELD\nrule,may_park,brake_held,~Chocks_Set\n";
-    let listing = "model,3,2,0\n0,Brake_Held,true,false\n1,MAY_PARK,true,false\n\
+    let listing = "model,3,2,0,1\n0,Brake_Held,true,false\n1,MAY_PARK,true,false\n\
         2,chocks_set,false,false\n";
     assert_output(format!("{lines}end\n").as_bytes(), listing);
     // A contradiction names the name in the same spelling.
     let clash = format!("{lines}rule,-bRAKE_hELD\nend\n");
-    assert_output(clash.as_bytes(), "contradiction,3,3,0,Brake_Held\n");
+    assert_output(clash.as_bytes(), "contradiction,3,3,0,1,Brake_Held\n");
 }
 
 #[test]
@@ -482,7 +482,7 @@ fn number_24_is_given_to_a_verdict_after_21_and_to_nothing_else() {
     assert_eq!(desk.search(question(1), 100), Ok(Some(false)));
     assert!(desk.model().is_ok_and(|model| model.contradictory));
     assert_eq!(desk.put_in(0), Ok(()));
-    assert_eq!(desk.listing(&mut [0; 40]), Ok(22));
+    assert_eq!(desk.listing(&mut [0; 40]), Ok(24));
 }
 
 #[test]

@@ -59,9 +59,10 @@ fn a_c_program_works_on_a_desk() {
     assert_success(&output);
     let run = Command::new(program).output().expect("the program starts");
     assert_success(&run);
-    // Literals 0 and 2 are true: word 0 of M and of N is 1 + 4. The verdict of the written sets is 2.
-    let expected = "0 0 22 23\n0 1\n0 1\n0 0 5 5\n0 2\n0 25\n\
-        model,2,1,1\n0,Brake_Held,true,false\n1,may_park,true,false\n0 0\nmodel,0,0,0\n\
+    // Literals 0 and 2 are true: word 0 of M and of N is 1 + 4, and the second round adds nothing. Without a
+    // book the model call is refused by 20. The verdict of the written sets is 2, and the written rounds are 300.
+    let expected = "0 0 22 23\n0 1\n0 1\n0 0 5 5 1\n20 0 0 0 0\n0 2\n0 0 1 5 300\n0 25\n\
+        model,2,1,1,1\n0,Brake_Held,true,false\n1,may_park,true,false\n0 0\nmodel,0,0,0,0\n\
         0 0 2 1 1\n0 0 0 0 0\n9 4 0 0 0\n";
     assert_eq!(String::from_utf8_lossy(&run.stdout), expected);
 }

@@ -46,7 +46,7 @@ fn says(desk: &Desk, tree: Tree, literal: usize) -> bool {
 
 #[test]
 fn case_1_lists_as_printed() {
-    let expected = "model,4,5,0
+    let expected = "model,4,5,0,2
 0,moving,true,false
 1,locked,false,true
 2,fault,undefined,false
@@ -78,7 +78,7 @@ fn cases_2_3_7_8_9_have_their_verdicts() {
 #[test]
 fn case_4_is_contradictory_and_still_searched() {
     let file = "name,a\nrule,a\nrule,-a\nend\n";
-    assert_eq!(program_output(file.as_bytes()), "contradiction,1,2,0,a\n");
+    assert_eq!(program_output(file.as_bytes()), "contradiction,1,2,0,1,a\n");
     let desk = desk(file);
     assert_eq!(desk.verdict(0), Err(Refused::Contradictory));
     assert!(says(&desk, Tree::T, 0));
@@ -100,8 +100,8 @@ fn case_6_has_f_and_s_false_and_d_undefined() {
 
 #[test]
 fn case_10_and_a_file_of_no_bytes_list_a_book_of_nothing() {
-    assert_eq!(program_output(b"end\n"), "model,0,0,0\n");
-    assert_eq!(program_output(b""), "model,0,0,0\n");
+    assert_eq!(program_output(b"end\n"), "model,0,0,0,0\n");
+    assert_eq!(program_output(b""), "model,0,0,0,0\n");
 }
 
 #[test]
@@ -113,9 +113,46 @@ fn case_11_puts_in_a_fact_and_takes_it_out() {
     let length = desk
         .listing(&mut buffer)
         .expect("the buffer is long enough");
-    assert_eq!(&buffer[..length], b"contradiction,2,3,1,a\n");
+    assert_eq!(&buffer[..length], b"contradiction,2,3,1,2,a\n");
     assert_eq!(desk.take_out(0), Ok(()));
     assert_eq!(verdicts(&desk), [False, True, True, False]);
+}
+
+fn rounds(desk: &Desk) -> usize {
+    desk.model().expect("a book is loaded").rounds
+}
+
+/// Document 02, A.10. Above each case stand I(1), I(2) and so on, as far as they grow.
+#[test]
+fn cases_have_their_rounds() {
+    let cases = [
+        // {-locked}; {-locked, moving}
+        (CASE_1, 2),
+        // In cases 2, 3, 9 and 10 I(1) is empty.
+        ("name,a\nrule,a,a\nend\n", 0),
+        ("name,a\nrule,a,~a\nend\n", 0),
+        // {a, -a}
+        ("name,a\nrule,a\nrule,-a\nend\n", 1),
+        // {-a}; {-a, b}
+        (CASE_5, 2),
+        // {-s}
+        (CASE_6, 1),
+        // {a}
+        ("name,a\nname,b\nrule,a,~b\nend\n", 1),
+        // {-a}
+        ("name,a\nrule,-a,~a\nend\n", 1),
+        ("name,a\nrule,a,~-a\nrule,-a,~a\nend\n", 0),
+        ("end\n", 0),
+    ];
+    for (file, expected) in cases {
+        assert_eq!(rounds(&desk(file)), expected, "{file}");
+    }
+    // Case 11: {a, -a}; {a, -a, b}. Then case 5 again.
+    let mut case_11 = desk(CASE_5);
+    assert_eq!(case_11.put_in(0), Ok(()));
+    assert_eq!(rounds(&case_11), 2);
+    assert_eq!(case_11.take_out(0), Ok(()));
+    assert_eq!(rounds(&case_11), 2);
 }
 
 #[test]
@@ -154,17 +191,17 @@ fn astray_a_tu_node_isnt_failed_by_a_global_t_ancestor() {
 #[test]
 fn astray_undefined_is_printed_as_such() {
     let text = program_output(b"name,a\nrule,a,~a\nend\n");
-    assert_eq!(text, "model,1,1,0\n0,a,undefined,false\n");
+    assert_eq!(text, "model,1,1,0,0\n0,a,undefined,false\n");
 }
 
 #[test]
 fn astray_a_contradiction_without_facts_is_found() {
     let file = b"name,x\nname,a\nrule,a,~x\nrule,-a,~x\nend\n";
-    assert_eq!(program_output(file), "contradiction,2,2,0,a\n");
+    assert_eq!(program_output(file), "contradiction,2,2,0,1,a\n");
 }
 
 #[test]
 fn the_lowest_contradictory_name_is_printed() {
     let file = b"name,c\nname,b\nname,a\nrule,a\nrule,-a\nrule,-b\nrule,b\nend\n";
-    assert_eq!(program_output(file), "contradiction,3,4,0,b\n");
+    assert_eq!(program_output(file), "contradiction,3,4,0,1,b\n");
 }

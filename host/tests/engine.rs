@@ -3,11 +3,14 @@
 //! leaves is held against the answer sets.
 #![cfg(feature = "engine")]
 
+mod families;
+
+use families::known_rounds;
 use mezhkura::accord::{accords, Accord};
 use mezhkura::compare::{agree, explain, models_stand, questions, Asked, Stood};
 use mezhkura::engine::Desk;
 use mezhkura::gen::{self, Call, Random, FULL, MIDDLE, SMALL};
-use mezhkura::second::read;
+use mezhkura::second::{read, Book};
 use std::fs;
 use std::path::Path;
 
@@ -105,6 +108,48 @@ fn models_stand_whatever_came_before() {
     }
     println!("{stood:?}");
     assert!(stood.refused > 10_000 && stood.calls > stood.refused + 10_000);
+}
+
+/// A load of a book, and facts put in and taken out again.
+fn load_and_change(book: &Book, facts: &[usize]) -> Vec<Call> {
+    let mut calls = vec![Call::Load(book.to_file().into_bytes())];
+    calls.extend(facts.iter().map(|&fact| Call::PutIn(fact)));
+    and_out_again(calls)
+}
+
+/// Document 02, A.10: the books that take most rounds, and others that take many.
+#[test]
+fn models_of_many_rounds_stand() {
+    let mut random = Random::new(seed() + 8);
+    let mut lists = vec![load_and_change(&gen::slow_book(), &[0])];
+    lists.extend(known_rounds().map(|known| load_and_change(&known.book, &known.facts)));
+    lists.extend((0..1_000).map(|_| {
+        let book = gen::book_with_rounds(&mut random);
+        let facts = gen::some_literals(&mut random, &book);
+        load_and_change(&book, &facts)
+    }));
+    for calls in lists {
+        models_stand(&calls, Desk::fresh).unwrap_or_else(|text| panic!("{text}"));
+    }
+}
+
+/// The same, by the number itself.
+#[test]
+fn rounds_are_known_for_every_count_of_names() {
+    for known in known_rounds() {
+        let mut desk = Desk::fresh();
+        desk.load(known.book.to_file().as_bytes())
+            .expect("the book loads");
+        for &fact in &known.facts {
+            desk.put_in(fact).expect("the fact is out");
+        }
+        let model = desk.model().expect("a book is loaded");
+        assert_eq!(model.rounds, known.rounds, "{}", known.header);
+        let mut buffer = [0; 8192];
+        let length = desk.listing(&mut buffer).expect("the buffer is long");
+        let text = String::from_utf8_lossy(&buffer[..length]);
+        assert_eq!(text.lines().next(), Some(&known.header[..]));
+    }
 }
 
 /// M lies inside every answer set and that inside N; true is in all of them, false in none.

@@ -27,6 +27,9 @@ fn examples_have_their_listings() {
     assert!(seen.iter().any(|l| l.starts_with("contradiction,")));
     assert!(seen.iter().any(|l| l.contains("undefined")));
     assert!(!seen.iter().any(|l| l.starts_with("refused")));
+    // The guide says that none of them takes more rounds.
+    let rounds = |l: &String| l.split([',', '\n']).nth(4).map(str::to_string);
+    assert_eq!(seen.iter().filter_map(rounds).max().as_deref(), Some("2"));
 }
 
 /// A block of a page between two lines of three backquotes.

@@ -4,7 +4,7 @@
 mod skip;
 
 use mezhkura::gen::{self, Random, FULL, SMALL};
-use mezhkura::second::program_output;
+use mezhkura::second::{program_output, MOST_NAMES};
 use mezhkura::shrink::shortest_file;
 use std::fs;
 use std::io::Write;
@@ -104,6 +104,18 @@ fn random_and_damaged_files_agree() {
         compare(&program, &gen::damaged(&mut random, &full));
     }
     println!("780 random and damaged files agree");
+}
+
+/// These listings have every count of rounds from 1 to 128, and the even ones to 256.
+#[test]
+fn books_of_many_rounds_agree() {
+    let Some(program) = program() else { return };
+    for names in 1..=MOST_NAMES {
+        for book in [gen::bound_book(names), gen::rounds_book(names)] {
+            compare(&program, book.to_file().as_bytes());
+        }
+    }
+    compare(&program, gen::slow_book().to_file().as_bytes());
 }
 
 /// The edges reach every number, so that the comparison above looks at all of them.

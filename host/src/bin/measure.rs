@@ -1,10 +1,10 @@
 //! Measures the engine beside the second implementation: `cargo run --release --features engine --bin
 //! measure`. It prints the tables of docs/MEASUREMENTS.md.
 
-use mezhkura::answer::{Question, Tree};
+use mezhkura::answer::{Question, Tree, MOST_NAMES};
 use mezhkura::engine::{self, Desk};
 use mezhkura::gen::{self, Random};
-use mezhkura::second;
+use mezhkura::second::{self, Book};
 use std::env;
 use std::hint::black_box;
 use std::io::{self, Write};
@@ -18,6 +18,7 @@ fn main() -> ExitCode {
     match words[..] {
         [] => {
             print_calls();
+            print_rounds();
             print_sizes();
             print_searches();
             print_stack();
@@ -25,8 +26,11 @@ fn main() -> ExitCode {
         ["stack", call, stack] => call_on(call, stack.parse().expect("a number of bytes")),
         ["file", "random"] => print_file(&full_file(1)),
         ["file", "chain"] => print_file(&chain_file()),
+        ["file", "bound"] => print_file(&file_of(gen::bound_book(MOST_NAMES))),
+        ["file", "rounds"] => print_file(&file_of(gen::rounds_book(MOST_NAMES))),
+        ["file", "slow"] => print_file(&file_of(gen::slow_book())),
         _ => {
-            eprintln!("usage: measure, or measure file random, or measure file chain");
+            eprintln!("usage: measure, or measure file random|chain|bound|rounds|slow");
             return ExitCode::FAILURE;
         }
     }
@@ -78,15 +82,37 @@ fn other_examples() -> [Sample; 2] {
     ]
 }
 
-/// The full random book of a seed.
-fn full_file(seed: u64) -> Vec<u8> {
-    let book = gen::full_book(&mut Random::new(seed));
+/// The books whose model takes most rounds, with and without a contradiction, and one whose rounds take
+/// long.
+fn books_of_many_rounds() -> [Sample; 3] {
+    [
+        Sample {
+            label: "bound: 128 names, 511 rules, a round for each literal",
+            file: file_of(gen::bound_book(MOST_NAMES)),
+        },
+        Sample {
+            label: "rounds: 128 names, 255 rules, a round for each name",
+            file: file_of(gen::rounds_book(MOST_NAMES)),
+        },
+        Sample {
+            label: "slow: 128 names, 487 rules, half of the names for rounds, half for passes",
+            file: file_of(gen::slow_book()),
+        },
+    ]
+}
+
+fn file_of(book: Book) -> Vec<u8> {
     book.to_file().into_bytes()
 }
 
-/// The book whose model takes most rounds: each name unless the next.
+/// The full random book of a seed.
+fn full_file(seed: u64) -> Vec<u8> {
+    file_of(gen::full_book(&mut Random::new(seed)))
+}
+
+/// A book whose model takes many rounds: each name unless the next.
 fn chain_file() -> Vec<u8> {
-    gen::long_model_book().to_file().into_bytes()
+    file_of(gen::long_model_book())
 }
 
 /// Prints a sample's file, for a program that measures the calls from C.
@@ -95,7 +121,7 @@ fn print_file(file: &[u8]) {
 }
 
 fn deep_file() -> Vec<u8> {
-    gen::deep_book(60).to_file().into_bytes()
+    file_of(gen::deep_book(60))
 }
 
 /// The mean of a call is over runs that take at least this time together.
@@ -181,6 +207,31 @@ fn print_calls() {
     }
 }
 
+/// The calls that work the model out, and the model call, on books whose model takes many rounds. Literal 0,
+/// which is put in, is a rule of each of these books too, so that the rounds stay as they are.
+fn print_rounds() {
+    println!();
+    println!("| book | call | engine, µs | second, µs | engine / second |");
+    println!("|---|---|---|---|---|");
+    for Sample { label, file } in books_of_many_rounds() {
+        let (mut engine, mut other) = (Desk::fresh(), second::Desk::fresh());
+        let load = times_of(
+            || engine.load(black_box(&file)).expect("the book loads"),
+            || other.load(black_box(&file)).expect("the book loads"),
+        );
+        let rounds = engine.model().expect("the book is loaded").rounds;
+        let label = format!("{label}: {rounds} rounds");
+        print_row(&label, "load", load);
+        let change = times_of(
+            || put_in_and_out(&mut engine, 0),
+            || second_in_and_out(&mut other, 0),
+        );
+        print_row(&label, "put in and take out", change);
+        let model = times_of(|| engine.model(), || other.model());
+        print_row(&label, "model", model);
+    }
+}
+
 /// Sizing beside the load of the same file, in turns. A file without its last line, which is `end`, is
 /// refused by 9 after all lines are read: there neither works out a model or keeps a book.
 fn print_sizes() {
@@ -231,7 +282,10 @@ const SCREEN: usize = 128;
 /// The rows with putting in and taking out. A fact that is put in has to be taken out before it can be put
 /// in again, so an accepted call is measured with its reverse.
 fn print_changes(label: &str, engine: &mut Desk, other: &mut second::Desk) {
-    let change = times_of(|| put_in_and_out(engine), || second_in_and_out(other));
+    let change = times_of(
+        || put_in_and_out(engine, FACT),
+        || second_in_and_out(other, FACT),
+    );
     print_row(label, "put in and take out", change);
     let literals = other.book().expect("the book is loaded").literals();
     let screen: Vec<usize> = (0..SCREEN).map(|place| place % literals).collect();
@@ -263,14 +317,14 @@ fn print_changes(label: &str, engine: &mut Desk, other: &mut second::Desk) {
     print_row(label, "put in, refused by 22", refused);
 }
 
-fn put_in_and_out(desk: &mut Desk) {
-    desk.put_in(black_box(FACT)).expect("the fact is out");
-    desk.take_out(black_box(FACT)).expect("the fact is in");
+fn put_in_and_out(desk: &mut Desk, fact: usize) {
+    desk.put_in(black_box(fact)).expect("the fact is out");
+    desk.take_out(black_box(fact)).expect("the fact is in");
 }
 
-fn second_in_and_out(desk: &mut second::Desk) {
-    desk.put_in(black_box(FACT)).expect("the fact is out");
-    desk.take_out(black_box(FACT)).expect("the fact is in");
+fn second_in_and_out(desk: &mut second::Desk, fact: usize) {
+    desk.put_in(black_box(fact)).expect("the fact is out");
+    desk.take_out(black_box(fact)).expect("the fact is in");
 }
 
 fn print_searches() {
@@ -329,7 +383,7 @@ fn times_of_questions(file: &[u8]) -> Times {
             let mut ask = || desk.search(black_box(*question));
             *least = mean_of(RUNS_OF_A_QUESTION, &mut ask).min(*least);
         }
-        let changes = mean_of(RUNS_OF_A_CALL, &mut || put_in_and_out(&mut desk));
+        let changes = mean_of(RUNS_OF_A_CALL, &mut || put_in_and_out(&mut desk, FACT));
         times.change = (changes / 2).min(times.change);
     }
     times

@@ -78,6 +78,7 @@ impl Desk {
             truths: members(&halves.truths),
             nonfalse: members(&halves.nonfalse),
             contradictory: contradictory_name(&halves).is_some(),
+            rounds: halves.rounds,
         })
     }
 

@@ -1,4 +1,4 @@
-//! The listing (document 01, "The listing, whole"; document 02, A.2).
+//! The listing (document 01, "The listing, whole"; document 02, A.2 and A.10).
 
 use super::book::Book;
 use super::model::{contradictory_name, verdict, Program};
@@ -8,7 +8,9 @@ use std::collections::BTreeSet;
 /// The listing of a lesson. A name is spelt as on the line that declares it.
 pub fn listing(book: &Book, facts: &BTreeSet<usize>) -> String {
     let halves = Program::new(book, facts).halves();
-    let counts = format!("{},{},{}", book.names.len(), book.rules.len(), facts.len());
+    let (names, rules, facts) = (book.names.len(), book.rules.len(), facts.len());
+    // Both headers have these four fields.
+    let counts = format!("{names},{rules},{facts},{}", halves.rounds);
     if let Some(name) = contradictory_name(&halves) {
         return format!("contradiction,{counts},{}\n", book.names[name]);
     }

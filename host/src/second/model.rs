@@ -1,4 +1,4 @@
-//! From rules to a model (document 01, "From rules to a model").
+//! From rules to a model (document 01, "From rules to a model"; document 02, A.10).
 
 use super::book::{complement, Book, Entry, Rule};
 use crate::answer::Verdict;
@@ -37,17 +37,24 @@ impl Program {
         program
     }
 
-    /// M and N.
+    /// M, N and the rounds: I(0), I(1) and so on, until two neighbours are equal.
     pub fn halves(&self) -> Halves {
         let seminormal = self.seminormal();
         let mut truths = vec![false; self.literals];
+        // The set above is I(rounds).
+        let mut rounds = 0;
         loop {
             let nonfalse = gamma(&seminormal, &truths);
             let next = gamma(self, &nonfalse);
             if next == truths {
-                return Halves { truths, nonfalse };
+                return Halves {
+                    truths,
+                    nonfalse,
+                    rounds,
+                };
             }
             truths = next;
+            rounds += 1;
         }
     }
 }
@@ -88,6 +95,8 @@ pub fn members(set: &[bool]) -> BTreeSet<usize> {
 pub struct Halves {
     pub truths: Vec<bool>,
     pub nonfalse: Vec<bool>,
+    /// The least k with I(k) = I(k + 1) (document 02, A.10).
+    pub rounds: usize,
 }
 
 /// The lowest-numbered name that has both literals in M.

@@ -9,22 +9,29 @@
 /* The sizes that the Rust side asserts of its own structs. */
 _Static_assert(sizeof(mezhkura_litset) == 32, "set of literals");
 _Static_assert(sizeof(mezhkura_book) == 8344, "book");
-_Static_assert(sizeof(struct mezhkura_model) == 64, "model");
+_Static_assert(sizeof(struct mezhkura_model) == 72, "model");
 _Static_assert(sizeof(mezhkura_shelf) == 8352, "shelf");
-_Static_assert(sizeof(mezhkura_lesson) == 96, "lesson");
-_Static_assert(sizeof(mezhkura_desk) == 8448, "desk");
+_Static_assert(sizeof(mezhkura_lesson) == 104, "lesson");
+_Static_assert(sizeof(mezhkura_desk) == 8456, "desk");
 _Static_assert(sizeof(mezhkura_size_reply) == 40, "reply to sizing");
-_Static_assert(sizeof(mezhkura_load_reply) == 8464, "reply to a load");
-_Static_assert(sizeof(mezhkura_change_reply) == 8456, "reply to a change");
+_Static_assert(sizeof(mezhkura_load_reply) == 8472, "reply to a load");
+_Static_assert(sizeof(mezhkura_change_reply) == 8464, "reply to a change");
 _Static_assert(sizeof(mezhkura_verdict_reply) == 2, "reply to a verdict");
 _Static_assert(sizeof(mezhkura_search_reply) == 2, "reply to a search");
-_Static_assert(sizeof(mezhkura_model_reply) == 72, "reply to the model call");
+_Static_assert(sizeof(mezhkura_model_reply) == 80, "reply to the model call");
 _Static_assert(sizeof(mezhkura_listing_reply) == 16, "reply to a listing");
 
 static void print_size(const char *file, size_t length)
 {
     mezhkura_size_reply size = mezhkura_size((const uint8_t *)file, length);
     printf("%d %zu %zu %zu %zu\n", size.number, size.line, size.names, size.rules, size.body_literals);
+}
+
+/* The first words of M and N, and the rounds. */
+static void print_model(mezhkura_model_reply model)
+{
+    printf("%d %d %d %d %zu\n", model.number, model.contradictory, (int)model.truths.words[0],
+           (int)model.nonfalse.words[0], model.rounds);
 }
 
 int main(void)
@@ -37,22 +44,27 @@ int main(void)
     mezhkura_verdict_reply verdict = mezhkura_verdict(out.desk, 2);
     mezhkura_search_reply search = mezhkura_search(out.desk, 3, 1, MEZHKURA_T);
     mezhkura_model_reply model = mezhkura_model(out.desk);
+    mezhkura_model_reply without_book = mezhkura_model(mezhkura_fresh());
     mezhkura_load_reply empty = mezhkura_load(out.desk, (const uint8_t *)file, 0);
     uint8_t buffer[200];
     mezhkura_listing_reply listing = mezhkura_listing(out.desk, buffer, sizeof buffer);
     mezhkura_listing_reply shorter = mezhkura_listing(out.desk, buffer, listing.length - 1);
 
-    /* Where a caller takes literal 2 out of M, its verdict is undefined, since it is in N still. */
+    /* Where a caller takes literal 2 out of M, its verdict is undefined, since it is in N still. Rounds that a caller
+     * writes are those that the model call gives. */
     mezhkura_desk written = out.desk;
     written.lesson.model.truths.words[0] = 1;
+    written.lesson.model.rounds = 300;
     mezhkura_verdict_reply of_written = mezhkura_verdict(written, 2);
+    mezhkura_model_reply model_of_written = mezhkura_model(written);
 
     printf("%d %d %d %d\n", load.number, put.number, again.number, out.number);
     printf("%d %d\n", verdict.number, verdict.verdict);
     printf("%d %d\n", search.number, search.holds);
-    printf("%d %d %d %d\n", model.number, model.contradictory, (int)model.truths.words[0],
-           (int)model.nonfalse.words[0]);
+    print_model(model);
+    print_model(without_book);
     printf("%d %d\n", of_written.number, of_written.verdict);
+    print_model(model_of_written);
     printf("%d %d\n", listing.number, shorter.number);
     fwrite(buffer, 1, listing.length, stdout);
     listing = mezhkura_listing(empty.desk, buffer, sizeof buffer);
