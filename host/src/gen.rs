@@ -270,8 +270,6 @@ pub fn book_with_rounds(random: &mut Random) -> Book {
 /// stands before the rule of the literal that it follows from, so that a pass over the rules in their order
 /// adds one of them. The rules behind them have the last literal as head and in the last place of the body,
 /// so they never apply, and a pass looks at their bodies to the end.
-///
-/// Of the splits that were tried, half and half takes the engine longest.
 pub fn slow_book() -> Book {
     let mut book = bound_book(MOST_NAMES / 2);
     let first = book.literals();

@@ -207,28 +207,22 @@ fn print_calls() {
     }
 }
 
-/// The calls that work the model out, and the model call, on books whose model takes many rounds. Literal 0,
-/// which is put in, is a rule of each of these books too, so that the rounds stay as they are.
+/// A change of the facts beside the second implementation's model call, on books whose model takes many
+/// rounds: each works one model out. Literal 0, which is put in, is a rule of each of these books too, so that
+/// the rounds stay as they are.
 fn print_rounds() {
     println!();
-    println!("| book | call | engine, µs | second, µs | engine / second |");
+    println!("| book | rounds | change, µs | second's model, µs | change / second's model |");
     println!("|---|---|---|---|---|");
     for Sample { label, file } in books_of_many_rounds() {
         let (mut engine, mut other) = (Desk::fresh(), second::Desk::fresh());
-        let load = times_of(
-            || engine.load(black_box(&file)).expect("the book loads"),
-            || other.load(black_box(&file)).expect("the book loads"),
-        );
-        let rounds = engine.model().expect("the book is loaded").rounds;
-        let label = format!("{label}: {rounds} rounds");
-        print_row(&label, "load", load);
-        let change = times_of(
-            || put_in_and_out(&mut engine, 0),
-            || second_in_and_out(&mut other, 0),
-        );
-        print_row(&label, "put in and take out", change);
-        let model = times_of(|| engine.model(), || other.model());
-        print_row(&label, "model", model);
+        engine.load(&file).expect("the book loads");
+        other.load(&file).expect("the book loads");
+        let rounds = engine.model().expect("a book is loaded").rounds;
+        let (in_and_out, model) = times_of(|| put_in_and_out(&mut engine, 0), || other.model());
+        let (change, model) = (micros(in_and_out) / 2.0, micros(model));
+        let ratio = ratio(change, model);
+        println!("| {label} | {rounds} | {change:.2} | {model:.2} | {ratio} |");
     }
 }
 
@@ -282,10 +276,7 @@ const SCREEN: usize = 128;
 /// The rows with putting in and taking out. A fact that is put in has to be taken out before it can be put
 /// in again, so an accepted call is measured with its reverse.
 fn print_changes(label: &str, engine: &mut Desk, other: &mut second::Desk) {
-    let change = times_of(
-        || put_in_and_out(engine, FACT),
-        || second_in_and_out(other, FACT),
-    );
+    let change = times_of(|| put_in_and_out(engine, FACT), || second_in_and_out(other));
     print_row(label, "put in and take out", change);
     let literals = other.book().expect("the book is loaded").literals();
     let screen: Vec<usize> = (0..SCREEN).map(|place| place % literals).collect();
@@ -322,9 +313,9 @@ fn put_in_and_out(desk: &mut Desk, fact: usize) {
     desk.take_out(black_box(fact)).expect("the fact is in");
 }
 
-fn second_in_and_out(desk: &mut second::Desk, fact: usize) {
-    desk.put_in(black_box(fact)).expect("the fact is out");
-    desk.take_out(black_box(fact)).expect("the fact is in");
+fn second_in_and_out(desk: &mut second::Desk) {
+    desk.put_in(black_box(FACT)).expect("the fact is out");
+    desk.take_out(black_box(FACT)).expect("the fact is in");
 }
 
 fn print_searches() {
