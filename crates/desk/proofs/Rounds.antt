@@ -1,10 +1,8 @@
 -- Every model call of a run gives the number of rounds, which is the least k with I(k) = I(k + 1) of the list's program, and the listing has it as a field.
 use mathlib.Core.Path.{_≡_, refl}
 use mathlib.Core.List.{List}
-use Prim.Native.Nat.{ℕ}
 use lib.ListN.{length}
 use Rattle.wfsx.specs.Sets.{members}
-use Rattle.wfsx.specs.Program.{Rule}
 use Rattle.wfsx.specs.Model.{M, verdict}
 use Rattle.wfsx.specs.Rounds.{rounds}
 use Rattle.wfsx.proofs.Rounds.{rounds-are, rounds-most}

@@ -12,7 +12,7 @@ use native.Mathlib.Omega.{arith}
 use lib.ListN.{length}
 use borrow.Author.Tests.{not-true}
 use Rattle.wfsx.specs.Sets.{Set, _∈_, _isIn_, members}
-use Rattle.wfsx.specs.Program.{Rule, Program}
+use Rattle.wfsx.specs.Program.{Program}
 use Rattle.wfsx.specs.Model.{Γ, Γs, headed, I, M}
 use Rattle.wfsx.specs.Rounds.{Still, LeastStill, distinctHeads, hasHeads, firstStill, rounds}
 use Rattle.truth.proofs.Truth.{clash, decided, not-intro, and-l, and-r, and-intro, or-elim, or-l, or-r}
