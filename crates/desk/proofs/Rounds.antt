@@ -12,7 +12,7 @@ use Rattle.lesson.specs.State.{BookState, unloaded, loaded-with, State, inForce
 use Rattle.lesson.specs.Calls.{GivesModel}
 use Rattle.lesson.specs.Conditions.{NoBook}
 use Rattle.lesson.specs.declared.ModelReply.{ModelReply}
-use Rattle.lesson.proofs.Sound.{rounds-in-book}
+use Rattle.lesson.proofs.Sound.{rounds-in-book, rounds-in-names}
 use Rattle.desk.specs.Calls.{Fresh}
 use Rattle.desk.specs.Runs.{Call, left, Run}
 use Rattle.desk.specs.Spelling.{fieldAt}
@@ -43,4 +43,10 @@ pub rounds-due : (cs : List Call) (start k : Desk) → Fresh start → Run start
 rounds-due cs start k f run some r h =
     let P = programIn (left cs) in
     rw (model-due cs start k f run some r h .model-is .rounds)
-    (record { least = rounds-are P; by-heads = rounds-most P; by-names = rounds-in-book (left cs) (left-sound cs); listed = listed cs some })
+    (record {
+      least = rounds-are P;
+      by-heads = rounds-most P;
+      by-literals = rounds-in-book (left cs) (left-sound cs);
+      by-names = rounds-in-names (left cs) (left-sound cs);
+      listed = listed cs some;
+    })

@@ -4,15 +4,17 @@ use Prim.Native.Nat.{ℕ, _*_, _≤_}
 use lib.ListN.{length}
 use Rattle.wfsx.specs.Rounds.{LeastStill, distinctHeads}
 use Rattle.lister.specs.Listing.{digits}
-use Rattle.lesson.specs.State.{State, itsNames, programIn, listingIn}
+use Rattle.lesson.specs.State.{State, itsNames, programIn, inBook, ContradictoryOver, listingIn}
 use Rattle.desk.specs.Spelling.{fieldAt}
 
 -- k is the number of rounds, over what a list of calls leaves
 pub record RoundsDue (d : State) (k : ℕ) : Type 0 where
   -- the least number with I(k) = I(k + 1)
   pub least : LeastStill (programIn d) k
-  -- never above the count of distinct heads, facts put in included, nor above the count of the book's literals
+  -- never above the count of distinct heads, facts put in included
   pub by-heads : k ≤ length (distinctHeads (programIn d))
-  pub by-names : k ≤ 2 * length (itsNames (d .book))
+  -- nor above the count of the book's literals, and without a contradiction not above that of its names
+  pub by-literals : k ≤ 2 * length (itsNames (d .book))
+  pub by-names : (ContradictoryOver (inBook (d .book)) d → ⊥) → k ≤ length (itsNames (d .book))
   -- both headers of a listing have it behind FACTS: it is field 4 of line 0
   pub listed : fieldAt (listingIn d) 0 4 ≡ digits k

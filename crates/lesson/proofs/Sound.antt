@@ -14,13 +14,14 @@ use Rattle.wfsx.specs.Program.{Rule, fact}
 use Rattle.wfsx.specs.Model.{Heads⊆}
 use Rattle.wfsx.specs.Rounds.{rounds}
 use Rattle.wfsx.proofs.Members.{members-are}
-use Rattle.wfsx.proofs.Contradiction.{heads-in}
-use Rattle.wfsx.proofs.Rounds.{rounds-below}
+use Rattle.wfsx.proofs.Supported.{heads}
+use Rattle.wfsx.proofs.Contradiction.{heads-in, contradiction}
+use Rattle.wfsx.proofs.Rounds.{rounds-below, rounds-by-names}
 use Rattle.truth.proofs.Truth.{and-l, or-elim}
 use Rattle.litset.specs.Words.{room, capacity}
 use Rattle.litset.proofs.Words.{without-at}
 use Rattle.book.specs.Limits.{maxNames}
-use Rattle.lesson.specs.State.{unloaded, loaded-with, State, emptied, itsNames, itsRules, inForce, programIn, inBook, Said, gives, refused, Ack, itsLiteral, changeSays, changedSet, changed, unlessRefused, ownAfter}
+use Rattle.lesson.specs.State.{unloaded, loaded-with, State, emptied, itsNames, itsRules, inForce, programIn, inBook, ContradictoryOver, Said, gives, refused, Ack, itsLiteral, changeSays, changedSet, changed, unlessRefused, ownAfter}
 use Rattle.lesson.specs.declared.Change.{Change}
 use Rattle.lesson.specs.declared.Change.the-variants.{PutIn, TakeOut}
 use Rattle.lesson.proofs.Order.{given-inside}
@@ -88,12 +89,20 @@ module _ (d : State) (s : Sound d) where
   pub heads-in-room : Heads⊆ (programIn d) room
   heads-in-room r m = lt-ltb (r .head) capacity (book-in-room (r .head) (heads-in-book r m))
 
+  head-below : (A : ℕ) → A isIn heads (programIn d) → A < 2 * length (itsNames (d .book))
+  unfolding inBook
+  head-below A m = ltb-true A (2 * length (itsNames (d .book))) (heads-in (programIn d) (inBook (d .book)) heads-in-book A m)
+
   -- no model takes more rounds than the book has literals, and a set has room for these
   pub rounds-in-book : rounds (programIn d) ≤ 2 * length (itsNames (d .book))
-  unfolding inBook
-  rounds-in-book = rounds-below (programIn d) _ (λ A m. ltb-true A (2 * length (itsNames (d .book))) (heads-in (programIn d) (inBook (d .book)) heads-in-book A m))
+  rounds-in-book = rounds-below (programIn d) (2 * length (itsNames (d .book))) head-below
 
   pub rounds-in-room : rounds (programIn d) ≤ capacity
   rounds-in-room =
       let few = s .few-names in
       omega (arith, rounds-in-book)
+
+  -- and without a contradiction none takes more than the book has names
+  pub rounds-in-names : (ContradictoryOver (inBook (d .book)) d → ⊥) → rounds (programIn d) ≤ length (itsNames (d .book))
+  rounds-in-names never =
+      rounds-by-names (programIn d) (length (itsNames (d .book))) head-below (λ i both. never (contradiction (programIn d) (inBook (d .book)) heads-in-book .1 (i, both)))

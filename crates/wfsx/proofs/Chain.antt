@@ -1,5 +1,5 @@
--- The chain ∅, f ∅, f (f ∅), .. of a monotone f. It grows, and lies in every set that f maps into itself. Where all that f gives lies in a list
--- H, it stands still after as many steps as H has entries: each step before that takes an entry of H in.
+-- The chain ∅, f ∅, f (f ∅), .. of a monotone f. It grows, and lies in every set that f maps into itself. Where all its sets lie in a list H, it
+-- stands still after as many steps as H has entries: each step before that takes an entry of H in.
 use mathlib.Core.Path.{_≡_, refl}
 use mathlib.Core.Logic.{_⊎_, inl, inr}
 use mathlib.Core.List.{List}
@@ -24,7 +24,7 @@ module _ (f : Set → Set) (mono : (S U : Set) → S ⊆ U → f S ⊆ f U) wher
   pub chain-inside : (U : Set) → f U ⊆ U → (n : ℕ) → iterate f ∅ n ⊆ U
   chain-inside U c = chain-ind f (λ A. A ∈ U) (λ D d A h. c A (mono D U d A h))
 
-  module _ (H : List ℕ) (given : (D : Set) (A : ℕ) → A ∈ f D → A isIn H) where
+  module _ (H : List ℕ) (given : (n A : ℕ) → A ∈ iterate f ∅ (suc n) → A isIn H) where
     abbrev Still : ℕ → Type 0
     Still n = iterate f ∅ (suc n) ⊆ iterate f ∅ n
 
@@ -37,7 +37,7 @@ module _ (f : Set → Set) (mono : (S U : Set) → S ⊆ U → f S ⊆ f U) wher
       where
         go : ((A : ℕ) → A isIn H → A ∈ iterate f ∅ (suc n) → A ∈ iterate f ∅ n) ⊎ ((A : ℕ) × A isIn H × A ∈ iterate f ∅ (suc n) × A ∉ iterate f ∅ n)
             → Still n ⊎ Filled (suc n)
-        go (inl g) = inl (λ A a. g A (given (iterate f ∅ n) A a) a)
+        go (inl g) = inl (λ A a. g A (given n A a) a)
         go (inr w) = inr (omega (arith, outside-falls (iterate f ∅ n) (iterate f ∅ (suc n)) (chain-grows n) (w .0) (w .3) (w .2) (w .1)))
 
     fills : (n : ℕ) → Still n ⊎ Filled (suc n)

@@ -27,7 +27,7 @@ module _ (P : Program) where
   module _ (S : Set) where
     pub Γ-fixed : Γ P S ≡ derived S (Γ P S)
     unfolding Γ
-    Γ-fixed = chain-stops (derived S) (λ D E d. derived-map d (λ A a. a)) (heads P) (λ D. supported-head P (holds D S)) (length P) (heads-most P)
+    Γ-fixed = chain-stops (derived S) (λ D E d. derived-map d (λ A a. a)) (heads P) (λ n. supported-head P (holds (iterate (derived S) ∅ n) S)) (length P) (heads-most P)
 
     -- induction over Γ(S): a literal is derived from a part D of Γ(S) of which the statement is known
     pub Γ-ind : (Q : ℕ → Type 0) → ((D : Set) → ((B : ℕ) → B ∈ D → Q B) → (A : ℕ) → A ∈ Γ P S → A ∈ derived S D → Q A) → (A : ℕ) → A ∈ Γ P S → Q A
@@ -112,7 +112,7 @@ module _ (P : Program) where
 
   pub M-fixpoint : M P ≡ Γ P (Γs P (M P))
   unfolding M I
-  M-fixpoint = chain-stops ΓΓs ΓΓs-monotone (heads P) (λ S. Γ-head P (Γs P S)) (length P) (heads-most P)
+  M-fixpoint = chain-stops ΓΓs ΓΓs-monotone (heads P) (λ n. Γ-head P (Γs P (I P n))) (length P) (heads-most P)
 
   -- M lies in every set that ΓΓs maps into itself, so in every fixpoint
   pub M-least : (U : Set) → Γ P (Γs P U) ⊆ U → M P ⊆ U

@@ -3,24 +3,24 @@
 use mathlib.Core.Path.{_≡_, refl, sym, _∙_, ap}
 use mathlib.Core.Logic.{_⊎_, inl, inr, ⊎-elim, _↔_}
 use mathlib.Core.Bool.{Bool, true, false, not, cond, _||_}
-use mathlib.Core.List.{List, [], _∷_, List·Memᴰ·head, List·Memᴰ·tail}
-use Prim.Native.Nat.{ℕ, zero, suc, _+_, _-_, _≤_, _<_}
-use native.Mathlib.Nat.{le-refl, le-trans, le-antisymm}
+use mathlib.Core.List.{List, [], _∷_, map, List·Memᴰ·head, List·Memᴰ·tail, Memᴰ·map}
+use Prim.Native.Nat.{ℕ, zero, suc, _+_, _-_, _*_, _/_, _≤_, _<_}
+use native.Mathlib.Nat.{le-refl, le-trans, le-antisymm, le-of-eq}
 use native.Mathlib.Numerals.{unary-clauses}
 use native.Mathlib.Decide.{ℕ-discrete}
 use native.Mathlib.Omega.{arith}
-use lib.ListN.{length}
+use lib.ListN.{length, length-map}
 use borrow.Author.Tests.{not-true}
 use Rattle.wfsx.specs.Sets.{Set, _∈_, _isIn_, members}
 use Rattle.wfsx.specs.Program.{Program}
-use Rattle.wfsx.specs.Model.{Γ, Γs, headed, I, M}
+use Rattle.wfsx.specs.Model.{Γ, Γs, headed, I, M, Both}
 use Rattle.wfsx.specs.Rounds.{Still, LeastStill, distinctHeads, hasHeads, firstStill, rounds}
 use Rattle.truth.proofs.Truth.{clash, decided, not-intro, and-l, and-r, and-intro, or-elim, or-l, or-r}
 use Rattle.wfsx.proofs.Sets.{⊆-antisym}
 use Rattle.wfsx.proofs.Members.{members-are, length-most}
 use Rattle.wfsx.proofs.Chain.{chain-stops}
 use Rattle.wfsx.proofs.Supported.{heads, heads-most, supported-head}
-use Rattle.wfsx.proofs.Operators.{Γ-head, ΓΓs, ΓΓs-monotone, I-next, I-grows, I⊆M, M-least}
+use Rattle.wfsx.proofs.Operators.{Γ-head, ΓΓs, ΓΓs-monotone, I-next, I-grows, I⊆M, M-least, M-head}
 
 -- ---- the test of the heads
 
@@ -52,6 +52,13 @@ distinct-all (r ∷ P) A m = go (distinct-all P A) (headed P (r .head)) refl m
     go rest false e (List·Memᴰ·head q) = List·Memᴰ·head q
     go rest false e (List·Memᴰ·tail i) = List·Memᴰ·tail (rest i)
 
+-- the numbers below n
+abbrev numbers : ℕ → List ℕ
+numbers n = members n (λ _. true)
+
+number-in : (n A : ℕ) → A < n → A isIn numbers n
+number-in n A h = members-are n (λ _. true) A .1 (refl, h)
+
 module _ (P : Program) where
   -- ---- where I stands still
 
@@ -67,10 +74,10 @@ module _ (P : Program) where
   still-on k zero s = simp unary-clauses s
   still-on k (suc n) s = simp unary-clauses (still-next (k + n) (still-on k n s))
 
-  -- after as many rounds as a list with all the heads has entries
-  still-within : (H : List ℕ) → ((A : ℕ) → A isIn heads P → A isIn H) → (n : ℕ) → length H ≤ n → Still P n
+  -- after as many rounds as a list that has all of M has entries
+  still-within : (H : List ℕ) → ((A : ℕ) → A ∈ M P → A isIn H) → (n : ℕ) → length H ≤ n → Still P n
   unfolding I
-  still-within H all n h = chain-stops (ΓΓs P) (ΓΓs-monotone P) H (λ S A a. all A (Γ-head P (Γs P S) A a)) n h
+  still-within H all n h = chain-stops (ΓΓs P) (ΓΓs-monotone P) H (λ k A a. all A (I⊆M P (suc k) A a)) n h
 
   still-is-M : (k : ℕ) → Still P k → I P k ≡ M P
   still-is-M k s = ⊆-antisym (I⊆M P k) (M-least P (I P k) (λ A a. rw (s, I-next P k) a))
@@ -100,24 +107,41 @@ module _ (P : Program) where
   pub rounds-are : LeastStill P (rounds P)
   unfolding rounds
   rounds-are =
-      let found = first-still 0 (length P) (still-within (heads P) (λ A m. m) (0 + length P) (omega (arith, heads-most P))) in
+      let found = first-still 0 (length P) (still-within (heads P) (M-head P) (0 + length P) (omega (arith, heads-most P))) in
       record { still = found .0; least = λ j s. found .1 j (omega arith) s }
 
   -- and the only one
   pub rounds-only : (k : ℕ) → LeastStill P k → k ≡ rounds P
   rounds-only k l = le-antisymm (l .least (rounds P) (rounds-are .still)) (rounds-are .least k (l .still))
 
-  pub rounds-within : (H : List ℕ) → ((A : ℕ) → A isIn heads P → A isIn H) → rounds P ≤ length H
+  rounds-within : (H : List ℕ) → ((A : ℕ) → A ∈ M P → A isIn H) → rounds P ≤ length H
   rounds-within H all = rounds-are .least (length H) (still-within H all (length H) (le-refl (length H)))
 
   -- never above the count of distinct heads
   pub rounds-most : rounds P ≤ length (distinctHeads P)
-  rounds-most = rounds-within (distinctHeads P) (distinct-all P)
+  rounds-most = rounds-within (distinctHeads P) (λ A a. distinct-all P A (M-head P A a))
 
   -- so never above a number that is above every head
   pub rounds-below : (n : ℕ) → ((A : ℕ) → A isIn heads P → A < n) → rounds P ≤ n
   rounds-below n below =
-      le-trans (rounds-within (members n (λ _. true)) (λ A m. members-are n (λ _. true) A .1 (refl, below A m))) (length-most (λ _. true) 0 n)
+      le-trans (rounds-within (numbers n) (λ A a. number-in n A (below A (M-head P A a)))) (length-most (λ _. true) 0 n)
+
+  -- where M has both literals of no name, never above the count of names: M has at most one literal of each
+  pub rounds-by-names : (n : ℕ) → ((A : ℕ) → A isIn heads P → A < 2 * n) → ((i : ℕ) → Both (M P) i → ⊥) → rounds P ≤ n
+  rounds-by-names n below one = le-trans (rounds-within (map its (numbers n)) all) (le-trans (le-of-eq (length-map (numbers n) its)) (length-most (λ _. true) 0 n))
+    where
+      -- the literal of a name that M may have
+      its : ℕ → ℕ
+      its i = cond (M P (2 * i)) (2 * i) (2 * i + 1)
+
+      all : (A : ℕ) → A ∈ M P → A isIn map its (numbers n)
+      all A a = rw (← go (M P (2 * (A / 2))) refl (ℕ-discrete A (2 * (A / 2)))) (Memᴰ·map its (number-in n (A / 2) (omega (arith, below A (M-head P A a)))))
+        where
+          go : (b : Bool) → M P (2 * (A / 2)) ≡ b → Dec (A ≡ 2 * (A / 2)) → cond b (2 * (A / 2)) (2 * (A / 2) + 1) ≡ A
+          go true e (yes q) = sym q
+          go true e (no ne) = absurd (one (A / 2) (e, let odd : A ≡ 2 * (A / 2) + 1 = omega arith in ap (M P) (sym odd) ∙ a))
+          go false e (yes q) = absurd (clash (ap (M P) (sym q) ∙ a) e)
+          go false e (no ne) = omega arith
 
   -- from there on I stands still, and is M
   pub M-from-rounds : (j : ℕ) → rounds P ≤ j → I P j ≡ M P

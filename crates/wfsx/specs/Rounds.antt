@@ -22,7 +22,7 @@ unfoldable pub distinctHeads : Program → List ℕ
 distinctHeads [] = []
 distinctHeads (r ∷ P) = cond (headed P (r .head)) (distinctHeads P) (r .head ∷ distinctHeads P)
 
--- ---- the number, worked out: I(0), I(1), .. are gone through, and there are as many of them as rules before they stand still
+-- ---- the number, worked out: I(0), I(1), .. are gone through, which stand still after at most as many rounds as there are rules
 
 -- every head of P that is in U is in S
 unfoldable pub hasHeads : Program → Set → Set → Bool
