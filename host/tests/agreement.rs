@@ -4,7 +4,7 @@
 
 mod families;
 
-use families::known_rounds;
+use families::{header_of, known_rounds};
 use mezhkura::accord::{accords, Accord};
 use mezhkura::answer::{BookSize, Fault, Model, Question, Refused, Tree, Verdict};
 use mezhkura::compare::{agree, answer_by_model, explain, models_stand, questions};
@@ -246,25 +246,12 @@ fn rounds_are_those_of_the_definition() {
     assert!(few[..13].iter().all(|&desks| desks > 5), "{few:?}");
 }
 
-/// The header of a desk's listing.
-fn header_of(desk: &Desk) -> String {
-    let mut buffer = [0; 8192];
-    let length = desk.listing(&mut buffer).expect("the buffer is long");
-    let text = String::from_utf8_lossy(&buffer[..length]);
-    text.lines().next().expect("a header").to_string()
-}
-
 #[test]
 fn rounds_are_known_for_every_count_of_names() {
     for known in known_rounds() {
-        let mut desk = Desk::fresh();
-        desk.load(known.book.to_file().as_bytes())
-            .expect("the book loads");
-        for &fact in &known.facts {
-            desk.put_in(fact).expect("the fact is out");
-        }
+        let desk = known.left_on(Desk::fresh(), Desk::load, Desk::put_in);
         assert_eq!(check_rounds(&desk), known.rounds, "{}", known.header);
-        assert_eq!(header_of(&desk), known.header);
+        assert_eq!(header_of(|buffer| desk.listing(buffer)), known.header);
         let of_rules = distinct_heads(&known.book.rules);
         assert_eq!(of_rules < known.rounds, !known.facts.is_empty());
     }

@@ -5,7 +5,7 @@
 
 mod families;
 
-use families::known_rounds;
+use families::{header_of, known_rounds};
 use mezhkura::accord::{accords, Accord};
 use mezhkura::compare::{agree, explain, models_stand, questions, Asked, Stood};
 use mezhkura::engine::Desk;
@@ -117,8 +117,7 @@ fn load_and_change(book: &Book, facts: &[usize]) -> Vec<Call> {
     and_out_again(calls)
 }
 
-/// Document 02, A.10: the books that take most rounds, and others that take many. The second implementation's
-/// rounds of the first are known (tests/agreement.rs), and the listing program lists them (tests/program.rs).
+/// Document 02, A.10: the books that take most rounds, and others that take many.
 #[test]
 fn models_of_many_rounds_stand() {
     let mut random = Random::new(seed() + 8);
@@ -131,6 +130,17 @@ fn models_of_many_rounds_stand() {
     }));
     for calls in lists {
         models_stand(&calls, Desk::fresh).unwrap_or_else(|text| panic!("{text}"));
+    }
+}
+
+/// The same, by the number itself.
+#[test]
+fn rounds_are_known_for_every_count_of_names() {
+    for known in known_rounds() {
+        let desk = known.left_on(Desk::fresh(), Desk::load, Desk::put_in);
+        let rounds = desk.model().map(|model| model.rounds);
+        assert_eq!(rounds, Ok(known.rounds), "{}", known.header);
+        assert_eq!(header_of(|buffer| desk.listing(buffer)), known.header);
     }
 }
 

@@ -1,5 +1,6 @@
 //! Books whose rounds are known for every count of names (document 02, A.10).
 
+use mezhkura::answer::Refused;
 use mezhkura::gen;
 use mezhkura::second::{Book, MOST_NAMES};
 
@@ -9,6 +10,30 @@ pub struct Known {
     pub facts: Vec<usize>,
     pub rounds: usize,
     pub header: String,
+}
+
+impl Known {
+    /// A desk after these calls of its kind: a load of the book, and the facts put in.
+    pub fn left_on<D>(
+        &self,
+        mut desk: D,
+        load: fn(&mut D, &[u8]) -> Result<(), Refused>,
+        put_in: fn(&mut D, usize) -> Result<(), Refused>,
+    ) -> D {
+        load(&mut desk, self.book.to_file().as_bytes()).expect("the book loads");
+        for &fact in &self.facts {
+            put_in(&mut desk, fact).expect("the fact is out");
+        }
+        desk
+    }
+}
+
+/// The header that a listing call writes.
+pub fn header_of(listing: impl FnOnce(&mut [u8]) -> Result<usize, Refused>) -> String {
+    let mut buffer = [0; 8192];
+    let length = listing(&mut buffer).expect("the buffer is long");
+    let text = String::from_utf8_lossy(&buffer[..length]);
+    text.lines().next().expect("a header").to_string()
 }
 
 /// Four books for each count of names.
