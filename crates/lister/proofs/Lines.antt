@@ -103,7 +103,7 @@ verdict-most is-false = omega arith
 verdict-most is-undefined = omega arith
 
 -- every count is a number of the machine
-pub record Small (c : Counts) : Type 0 where
+record Small (c : Counts) : Type 0 where
   pub names : c .names < 10 ^ 20
   pub rules : c .rules < 10 ^ 20
   pub facts : c .facts < 10 ^ 20
