@@ -8,7 +8,7 @@ use Rattle.wfsx.specs.Sets.{Set}
 use Rattle.wfsx.specs.Program.{Program}
 use Rattle.wfsx.specs.Model.{headed, I}
 
--- I stands still at k: the round behind I(k) adds nothing.
+-- I stands still at k: the round from I(k) to I(k + 1) adds nothing.
 abbrev pub Still : Program → ℕ → Type 0
 Still P k = I P k ≡ I P (suc k)
 
