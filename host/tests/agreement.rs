@@ -272,7 +272,8 @@ fn rounds_reach_the_count_of_distinct_heads() {
 fn passes(program: &Program, s: &[bool]) -> usize {
     let seminormal = program.seminormal();
     let mut closed = vec![false; program.literals];
-    for pass in 0.. {
+    let mut passes = 0;
+    loop {
         let before = closed.clone();
         for rule in &seminormal.rules {
             let holds = rule.body.iter().all(|entry| {
@@ -285,10 +286,10 @@ fn passes(program: &Program, s: &[bool]) -> usize {
             closed[rule.head] |= holds;
         }
         if closed == before {
-            return pass;
+            return passes;
         }
+        passes += 1;
     }
-    unreachable!("a set can't grow for ever");
 }
 
 /// The slow book has a round for each literal of half of its names, and in each round a pass for each literal

@@ -5,14 +5,14 @@ use lib.ListN.{length}
 use Rattle.wfsx.specs.Sets.{members}
 use Rattle.wfsx.specs.Model.{M, verdict}
 use Rattle.wfsx.specs.Rounds.{rounds}
-use Rattle.wfsx.proofs.Rounds.{rounds-are, rounds-most}
+use Rattle.wfsx.proofs.Rounds.{rounds-are}
 use Rattle.litset.specs.Words.{capacity, clashIn}
 use Rattle.lister.specs.Listing.{digits}
 use Rattle.lesson.specs.State.{BookState, unloaded, loaded-with, State, inForce, programIn, listingIn}
 use Rattle.lesson.specs.Calls.{GivesModel}
 use Rattle.lesson.specs.Conditions.{NoBook}
 use Rattle.lesson.specs.declared.ModelReply.{ModelReply}
-use Rattle.lesson.proofs.Sound.{rounds-in-book, rounds-in-names}
+use Rattle.lesson.proofs.Sound.{rounds-in-heads, rounds-in-book, rounds-in-names}
 use Rattle.desk.specs.Calls.{Fresh}
 use Rattle.desk.specs.Runs.{Call, left, Run}
 use Rattle.desk.specs.Spelling.{fieldAt}
@@ -45,7 +45,7 @@ rounds-due cs start k f run some r h =
     rw (model-due cs start k f run some r h .model-is .rounds)
     (record {
       least = rounds-are P;
-      by-heads = rounds-most P;
+      by-heads = rounds-in-heads (left cs) (left-sound cs);
       by-literals = rounds-in-book (left cs) (left-sound cs);
       by-names = rounds-in-names (left cs) (left-sound cs);
       listed = listed cs some;

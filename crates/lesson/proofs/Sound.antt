@@ -11,12 +11,12 @@ use lib.ListN.{length}
 use borrow.Author.Tests.{eqb-true, ltb-true, lt-ltb}
 use Rattle.wfsx.specs.Sets.{_∈_, _isIn_, members}
 use Rattle.wfsx.specs.Program.{Rule, fact}
-use Rattle.wfsx.specs.Model.{Heads⊆}
+use Rattle.wfsx.specs.Model.{Heads⊆, headCount}
 use Rattle.wfsx.specs.Rounds.{rounds}
 use Rattle.wfsx.proofs.Members.{members-are}
 use Rattle.wfsx.proofs.Supported.{heads}
 use Rattle.wfsx.proofs.Contradiction.{heads-in, contradiction}
-use Rattle.wfsx.proofs.Rounds.{rounds-below, rounds-by-names}
+use Rattle.wfsx.proofs.Rounds.{rounds-most, rounds-below, rounds-by-names}
 use Rattle.truth.proofs.Truth.{and-l, or-elim}
 use Rattle.litset.specs.Words.{room, capacity}
 use Rattle.litset.proofs.Words.{without-at}
@@ -93,14 +93,18 @@ module _ (d : State) (s : Sound d) where
   unfolding inBook
   head-below A m = ltb-true A (2 * length (itsNames (d .book))) (heads-in (programIn d) (inBook (d .book)) heads-in-book A m)
 
-  -- no model takes more rounds than the book has literals, and a set has room for these
+  head-in-room : (A : ℕ) → A isIn heads (programIn d) → A < capacity
+  head-in-room A m = ltb-true A capacity (heads-in (programIn d) room heads-in-room A m)
+
+  -- no model takes more rounds than its program has distinct heads or the book literals, and a set has room for these
+  pub rounds-in-heads : rounds (programIn d) ≤ headCount capacity (programIn d)
+  rounds-in-heads = rounds-most (programIn d) capacity head-in-room
+
   pub rounds-in-book : rounds (programIn d) ≤ 2 * length (itsNames (d .book))
   rounds-in-book = rounds-below (programIn d) (2 * length (itsNames (d .book))) head-below
 
   pub rounds-in-room : rounds (programIn d) ≤ capacity
-  rounds-in-room =
-      let few = s .few-names in
-      omega (arith, rounds-in-book)
+  rounds-in-room = rounds-below (programIn d) capacity head-in-room
 
   -- and without a contradiction none takes more than the book has names
   pub rounds-in-names : (ContradictoryOver (inBook (d .book)) d → ⊥) → rounds (programIn d) ≤ length (itsNames (d .book))

@@ -12,7 +12,7 @@ use borrow.Author.Tests.{lt-ltb, le-ltb}
 use Rattle.truth.proofs.Truth.{clash, refuted, or-none}
 use Rattle.wfsx.specs.Sets.{Set, _∉_, ∅, members}
 use Rattle.wfsx.specs.Program.{Entry, positive, default, Program}
-use Rattle.wfsx.specs.Model.{supported, headed}
+use Rattle.wfsx.specs.Model.{supported, headed, headCount}
 use Rattle.wfsx.specs.Trees.{Tree, T, TU, child, tree, answer}
 use Rattle.wfsx.proofs.Sets.{⊆-antisym}
 use Rattle.wfsx.proofs.Facts.{supported-facts}
@@ -28,7 +28,7 @@ use Rattle.index.specs.declared.Index.{Index}
 use Rattle.index.proofs.Walks.{rules-some, rules-none, supported-below, indexed-same}
 use Rattle.search.specs.declared.Tree as declared
 use Rattle.search.specs.Questions.{treeOf, questionOf, decidedBy}
-use Rattle.search.specs.Bound.{headCount, mostVisits}
+use Rattle.search.specs.Bound.{mostVisits}
 use Rattle.search.specs.Marks.{marked, aboveIn}
 use Rattle.search.specs.Walk.{State, state, programBy, ruleIn, headIn, Resting, Paid, Ready, TVisit, TuSearch}
 use Rattle.search.proofs.Marks.{marked-not}
@@ -116,7 +116,7 @@ module _ {P : Program} {s s′ : State} (a : ℕ) (r : Bool) (above : aboveIn (s
   pub root-TU : k ≡ declared.Tree.Tu → TuSearch P s s′ a r → r ≡ tree P (treeOf k) ∅ ∅ a
   root-TU e v = rw e (between r (tree P TU ∅ ∅ a) (λ q. ap (λ (X : Set). tree P TU ∅ X a) (sym above) ∙ v .said-yes q) (v .said-no))
 
-pub root-visits : {P : Program} {s s′ : State} → Ready P T s 0 → Paid P s s′ 0 → s′ .visits ≤ mostVisits (headCount P)
+pub root-visits : {P : Program} {s s′ : State} → Ready P T s 0 → Paid P s s′ 0 → s′ .visits ≤ mostVisits (headCount capacity P)
 root-visits r p = omega (arith, r .room, p .paid)
 
 -- ---- the book's program
@@ -140,7 +140,7 @@ module _ (b : Book) (facts : List ℕ) (long : length facts ≡ nWords) where
         ∙ ap (λ (c : Bool). c || setOf facts A) (ap (λ (y : Index). supported (rulesBy (y .starts) (y .rules) (b .starts) (b .entries) capacity) f A) e ∙ indexed-same (b .heads) (b .starts) (b .entries) _ f A)
         ∙ sym (book-supports f A)
 
-    pub as-few-visits : (n : ℕ) → n ≤ mostVisits (headCount by-index) → n ≤ mostVisits (headCount Q)
+    pub as-few-visits : (n : ℕ) → n ≤ mostVisits (headCount capacity by-index) → n ≤ mostVisits (headCount capacity Q)
     unfolding headCount
     as-few-visits n l =
         let many : headed by-index ≡ headed Q = fun-ext (same (λ e. true)) in

@@ -10,12 +10,11 @@ use lib.ListN.{getD}
 use Rattle.truth.proofs.Truth.{clash}
 use Rattle.wfsx.specs.Sets.{Set, _∈_, _∉_, _⊆_, ∅}
 use Rattle.wfsx.specs.Program.{Program}
-use Rattle.wfsx.specs.Model.{headed}
+use Rattle.wfsx.specs.Model.{headed, headCount}
 use Rattle.wfsx.specs.Trees.{T, TU, tree}
 use Rattle.wfsx.proofs.Sets.{⊆-antisym}
 use Rattle.litset.specs.Words.{capacity}
 use Rattle.search.specs.declared.Finding.{Finding}
-use Rattle.search.specs.Bound.{headCount}
 use Rattle.search.specs.Marks.{marked, turnedIn}
 use Rattle.search.specs.Walk.{State, state, Resting, leftIn, kept, Ready, Walked, Says, TVisit, TuVisit, TuSearch}
 use Rattle.search.proofs.Marks.{marked-is, marked-at, marked-not, turned-room, turned-gone, turned-same, turned-into, turned-small}
@@ -140,11 +139,11 @@ module _ {P : Program} {s₀ s : State} (g : Going P T s₀ s) (t₁ u₁ : List
     search-walked = walked-more (g .walked) forgets
 
     -- the path that was walked is owed
-    owed : v₁ + leftIn P (state t₁ u₂ v₁) ≤ s .visits + leftIn P s + headCount P
+    owed : v₁ + leftIn P (state t₁ u₂ v₁) ≤ s .visits + leftIn P s + headCount capacity P
     unfolding kept
     owed = rw e (omega (arith, v .visited .spent .spent, forgotten-left P t₁ u₁ (v .visited .walked .tables .u-room)))
 
-    pub search-opens : Ready P T s₀ 0 → Ready P T (state t₁ u₂ v₁) (headCount P) × ((l < capacity) × ((getD t₁ l 0 ≡ 0) × (l ∈ headed P)))
+    pub search-opens : Ready P T s₀ 0 → Ready P T (state t₁ u₂ v₁) (headCount capacity P) × ((l < capacity) × ((getD t₁ l 0 ≡ 0) × (l ∈ headed P)))
     unfolding Says
     search-opens r =
         (record { tables = forgets .tables; resting = rw e (turned-rests 0 (omega arith) (v .visited .walked)); room = omega (arith, owed, r .room, g .paid .paid) }, v .visited .says .1)

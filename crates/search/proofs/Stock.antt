@@ -10,12 +10,12 @@ use lib.Dec.{eqb}
 use lib.ListN.{length, getD, set, length-set}
 use Rattle.wfsx.specs.Sets.{Set, _∈_}
 use Rattle.wfsx.specs.Program.{Program}
-use Rattle.wfsx.specs.Model.{headed}
+use Rattle.wfsx.specs.Model.{headed, headCount}
 use Rattle.wfsx.proofs.Members.{length-most}
 use Rattle.litset.specs.Words.{capacity}
 use Rattle.search.specs.declared.Finding.{Finding}
 use Rattle.search.specs.Marks.{turned, turnedIn, uLeft, count, others, blanks, without}
-use Rattle.search.specs.Bound.{headCount, mostVisits}
+use Rattle.search.specs.Bound.{mostVisits}
 use Rattle.search.specs.Walk.{stock, kept}
 use Rattle.search.proofs.Marks.{turned-at, turned-room, turned-other, count-set-same, count-set-less, count-turned-same, count-turned-le, count-within}
 
@@ -45,15 +45,15 @@ counted-at S a m = let e : 0 + a ≡ a = omega arith in rw e m
 -- ---- no count is above the number of heads
 
 module _ (P : Program) (s : List ℕ) (long : length s ≡ capacity) where
-  within : (test : ℕ → Bool) → count (headed P) test s ≤ headCount P
+  within : (test : ℕ → Bool) → count (headed P) test s ≤ headCount capacity P
   unfolding headCount
   within test = rw long at (count-within (headed P) test 0 s)
 
 -- so all that may be left is at most the bound
-pub left-most : (P : Program) (t u : List ℕ) → length t ≡ capacity → length u ≡ capacity → stock P t u + blanks (headed P) u ≤ mostVisits (headCount P)
+pub left-most : (P : Program) (t u : List ℕ) → length t ≡ capacity → length u ≡ capacity → stock P t u + blanks (headed P) u ≤ mostVisits (headCount capacity P)
 unfolding stock
 left-most P t u t-long u-long =
-    let n = headCount P in
+    let n = headCount capacity P in
     omega (
       arith,
       times-le (2 * (n * (n + 1))) (within P t t-long (λ x. not (eqb x 1))),
@@ -65,7 +65,7 @@ left-most P t u t-long u-long =
     )
 
 -- the bound is a number that the machine's words hold
-pub most-small : (P : Program) → mostVisits (headCount P) + headCount P ≤ mostVisits capacity + capacity
+pub most-small : (P : Program) → mostVisits (headCount capacity P) + headCount capacity P ≤ mostVisits capacity + capacity
 unfolding headCount
 most-small P =
     let few = length-most (headed P) 0 capacity in
@@ -78,10 +78,10 @@ most-small P =
 
 module _ (P : Program) (t u : List ℕ) (a : ℕ) (room : a < length t) (head : a ∈ headed P) (zero-there : getD t a 0 ≡ 0) where
   -- a fact is proved
-  pub t-fact-less : stock P (set t a 1) u + (headCount P + 1) ≤ stock P t u
+  pub t-fact-less : stock P (set t a 1) u + (headCount capacity P + 1) ≤ stock P t u
   unfolding stock
   t-fact-less =
-      let n = headCount P in
+      let n = headCount capacity P in
       omega (
         arith,
         times (2 * (n * (n + 1))) (count-set-less (headed P) (λ x. not (eqb x 1)) 0 t a 1 room (counted-at (headed P) a head) (rw zero-there refl) refl),
@@ -89,10 +89,10 @@ module _ (P : Program) (t u : List ℕ) (a : ℕ) (room : a < length t) (head : 
       )
 
   -- the way down
-  pub t-mark-less : stock P (set t a 3) u + (headCount P + 1) ≤ stock P t u
+  pub t-mark-less : stock P (set t a 3) u + (headCount capacity P + 1) ≤ stock P t u
   unfolding stock
   t-mark-less =
-      let n = headCount P in
+      let n = headCount capacity P in
       let same : others 1 (headed P) (set t a 3) ≡ others 1 (headed P) t = count-set-same (headed P) (λ x. not (eqb x 1)) 0 t a 3 (rw zero-there refl) in
       omega (arith, ap (λ (k : ℕ). k * (2 * (n * (n + 1)))) same, times (n + 1) (count-set-less (headed P) (λ x. eqb x 0) 0 t a 3 room (counted-at (headed P) a head) (rw zero-there refl) refl))
 
@@ -107,7 +107,7 @@ module _ (P : Program) (t u : List ℕ) (a : ℕ) (above : getD t a 0 ≡ 3) whe
       → stock P (set (turnedIn 2 0 t) a 1) (turnedIn 2 0 u) + blanks (headed P) (turnedIn 2 0 u) ≤ stock P t u
   unfolding stock
   t-holds-left t-long u-long small head =
-      let n = headCount P in
+      let n = headCount capacity P in
       let t₁ = turnedIn 2 0 t in
       let u₁ = turnedIn 2 0 u in
       let pos : 0 < 2 = omega arith in
@@ -132,7 +132,7 @@ module _ (P : Program) (t u : List ℕ) (a : ℕ) (long : length u ≡ capacity)
   pub u-mark-less : getD u a 0 ≡ 0 → stock P t (set u a 4) + blanks (headed P) (set u a 4) < stock P t u + blanks (headed P) u
   unfolding stock
   u-mark-less zero-there =
-      let n = headCount P in
+      let n = headCount capacity P in
       let same : without 1 2 (headed P) (set u a 4) ≡ without 1 2 (headed P) u = count-set-same (headed P) (λ x. not (eqb x 1) && not (eqb x 2)) 0 u a 4 (rw zero-there refl) in
       omega (arith, ap (λ (k : ℕ). k * n) same, count-set-less (headed P) (λ x. eqb x 0) 0 u a 4 (omega arith) (counted-at (headed P) a head) (rw zero-there refl) refl)
 
@@ -140,15 +140,15 @@ module _ (P : Program) (t u : List ℕ) (a : ℕ) (long : length u ≡ capacity)
   pub u-left : (f : Finding) → getD u a 0 ≡ 4 → stock P t (uLeft f a u) + kept P f (uLeft f a u) ≤ stock P t u + kept P f u
   unfolding stock kept uLeft
   u-left Finding.Fails there =
-      let n = headCount P in
+      let n = headCount capacity P in
       let same : without 1 2 (headed P) (set u a 3) ≡ without 1 2 (headed P) u = count-set-same (headed P) (λ x. not (eqb x 1) && not (eqb x 2)) 0 u a 3 (rw there refl) in
       omega (arith, ap (λ (k : ℕ). k * n) same, count-set-same (headed P) (λ x. eqb x 0) 0 u a 3 (rw there refl))
   u-left (Finding.Waits l) there =
-      let n = headCount P in
+      let n = headCount capacity P in
       let same : without 1 2 (headed P) (set u a 0) ≡ without 1 2 (headed P) u = count-set-same (headed P) (λ x. not (eqb x 1) && not (eqb x 2)) 0 u a 0 (rw there refl) in
       omega (arith, ap (λ (k : ℕ). k * n) same)
   u-left Finding.Holds there =
-      let n = headCount P in
+      let n = headCount capacity P in
       let u₁ = turnedIn 3 0 u in
       let pos : 0 < 3 = omega arith in
       let long₁ : length u₁ ≡ capacity = turned-room 3 0 pos u ∙ long in
@@ -163,12 +163,12 @@ module _ (P : Program) (t u : List ℕ) where
   pub settled-left : stock P t (turnedIn 3 1 u) + blanks (headed P) (turnedIn 3 1 u) ≤ stock P t u + blanks (headed P) u
   unfolding stock
   settled-left =
-      let n = headCount P in
+      let n = headCount capacity P in
       omega (arith, times-le n (count-turned-le (headed P) (λ x. not (eqb x 1) && not (eqb x 2)) 3 1 refl 0 u), count-turned-same (headed P) (λ x. eqb x 0) 3 1 refl 0 u)
 
-  pub forgotten-left : length u ≡ capacity → stock P t (turnedIn 3 0 u) + blanks (headed P) (turnedIn 3 0 u) ≤ stock P t u + headCount P
+  pub forgotten-left : length u ≡ capacity → stock P t (turnedIn 3 0 u) + blanks (headed P) (turnedIn 3 0 u) ≤ stock P t u + headCount capacity P
   unfolding stock
   forgotten-left long =
-      let n = headCount P in
+      let n = headCount capacity P in
       let same : without 1 2 (headed P) (turnedIn 3 0 u) ≡ without 1 2 (headed P) u = count-turned-same (headed P) (λ x. not (eqb x 1) && not (eqb x 2)) 3 0 refl 0 u in
       omega (arith, ap (λ (k : ℕ). k * n) same, within P (turnedIn 3 0 u) (turned-room 3 0 (omega arith) u ∙ long) (λ x. eqb x 0))

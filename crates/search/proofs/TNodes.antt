@@ -11,13 +11,12 @@ use borrow.Author.Tests.{eqb-true, eqb-false}
 use Rattle.truth.proofs.Truth.{clash}
 use Rattle.wfsx.specs.Sets.{Set, _∈_, _∉_, ∅, add}
 use Rattle.wfsx.specs.Program.{Entry, Program}
-use Rattle.wfsx.specs.Model.{headed}
+use Rattle.wfsx.specs.Model.{headed, headCount}
 use Rattle.wfsx.specs.Trees.{T, TU, child, tree}
 use Rattle.wfsx.proofs.Sets.{add-has}
 use Rattle.wfsx.proofs.Ancestors.{t-has, t-fails, t-headless}
 use Rattle.litset.specs.Words.{capacity}
 use Rattle.search.specs.declared.Finding.{Finding}
-use Rattle.search.specs.Bound.{headCount}
 use Rattle.search.specs.Marks.{marked, aboveIn, turnedIn, tLeft, heldLeft, isHolds, blanks}
 use Rattle.search.specs.Walk.{State, state, Right, Tables, Resting, stock, leftIn, Paid, kept, Spent, Ready, Walked, Says, Visited, TVisit, sureAt, mayAt}
 use Rattle.search.proofs.Marks.{marked-at, marked-not, mark-same, mark-added, mark-removed, small-set, turned-room, turned-gone, turned-same, turned-small}
@@ -50,7 +49,7 @@ t-bare {P} {s} r a n =
     }
 
 -- what is paid where nothing was known
-pays-more : {P : Program} {s s′ : State} (a : ℕ) {holds : Bool} → Walked P T s s′ → Resting P T (s′ .u) → Paid P s s′ (headCount P) → leftIn P s′ + headCount P < leftIn P s
+pays-more : {P : Program} {s s′ : State} (a : ℕ) {holds : Bool} → Walked P T s s′ → Resting P T (s′ .u) → Paid P s s′ (headCount capacity P) → leftIn P s′ + headCount capacity P < leftIn P s
     → (holds ≡ true → a ∈ tree P T ∅ ∅) → (holds ≡ false → a ∉ tree P T ∅ (aboveIn (s .t))) → TVisit P s s′ a holds
 pays-more a w rest p l said-yes said-no =
     record {
@@ -59,7 +58,7 @@ pays-more a w rest p l said-yes said-no =
       less = λ _ _. l;
     }
 
-module _ {P : Program} {R : (Entry → Bool) → Set} {F : Set} (join : Joined P R F) (t u : List ℕ) (v : ℕ) (r : Ready P T (state t u v) (headCount P)) (a : ℕ) (small : a < capacity) (zero-there : getD t a 0 ≡ 0) where
+module _ {P : Program} {R : (Entry → Bool) → Set} {F : Set} (join : Joined P R F) (t u : List ℕ) (v : ℕ) (r : Ready P T (state t u v) (headCount capacity P)) (a : ℕ) (small : a < capacity) (zero-there : getD t a 0 ≡ 0) where
   h : Tables P t u
   h = r .tables
 
@@ -135,7 +134,7 @@ module _ {P : Program} {R : (Entry → Bool) → Set} {F : Set} (join : Joined P
 
       -- its visit, its stock and the path that it pays for come out of its mark
       paid-up : (f : Finding) (t₂ u₂ : List ℕ) → Spent P f t-below (state t₁ u₁ v₁) → stock P t₂ u₂ + blanks (headed P) u₂ ≤ stock P t₁ u₁ + kept P f u₁
-          → Paid P (state t u v) (state t₂ u₂ v₁) (headCount P) × (leftIn P (state t₂ u₂ v₁) + headCount P < leftIn P (state t u v))
+          → Paid P (state t u v) (state t₂ u₂ v₁) (headCount capacity P) × (leftIn P (state t₂ u₂ v₁) + headCount capacity P < leftIn P (state t u v))
       paid-up f t₂ u₂ s l =
           let less = t-mark-less P t u a room head zero-there in
           (record { counted = omega (arith, s .counted); paid = omega (arith, s .spent, l, less) }, omega (arith, s .counted, s .spent, l, less))

@@ -8,12 +8,12 @@ use lib.Dec.{ltb}
 use lib.ListN.{length, getD}
 use Rattle.wfsx.specs.Sets.{Set, _∈_, _∉_, _⊆_, ∅}
 use Rattle.wfsx.specs.Program.{Entry, Program}
-use Rattle.wfsx.specs.Model.{headed}
+use Rattle.wfsx.specs.Model.{headed, headCount}
 use Rattle.wfsx.specs.Trees.{Tree, T, TU, child, tree}
 use Rattle.litset.specs.Words.{capacity, setOf}
 use Rattle.book.specs.Book.{program}
 use Rattle.index.specs.Index.{rulesStart, rulesEnd, rulesBy}
-use Rattle.search.specs.Bound.{headCount, mostVisits}
+use Rattle.search.specs.Bound.{mostVisits}
 use Rattle.search.specs.Marks.{provedIn, failedIn, aboveIn, falseIn, heldIn, shutIn, pathIn, others, blanks, without}
 use Rattle.search.specs.declared.Finding.{Finding}
 
@@ -69,7 +69,7 @@ Resting P TU u = (A : ℕ) → A ∈ shutIn u → A ∉ tree P TU (pathIn u) ∅
 -- for the shut literals that are forgotten, and one that asks its rules pays for itself with a mark where there was none.
 unfoldable pub stock : Program → List ℕ → List ℕ → ℕ
 stock P t u =
-    others 1 (headed P) t * (2 * (headCount P * (headCount P + 1))) + (blanks (headed P) t * (headCount P + 1) + without 1 2 (headed P) u * headCount P)
+    others 1 (headed P) t * (2 * (headCount capacity P * (headCount capacity P + 1))) + (blanks (headed P) t * (headCount capacity P + 1) + without 1 2 (headed P) u * headCount capacity P)
 
 abbrev pub leftIn : Program → State → ℕ
 leftIn P s = stock P (s .t) (s .u) + blanks (headed P) (s .u)
@@ -95,7 +95,7 @@ pub record Spent (P : Program) (f : Finding) (s s′ : State) : Type 0 where
 pub record Ready (P : Program) (k : Tree) (s : State) (over : ℕ) : Type 0 where
   pub tables : Tables P (s .t) (s .u)
   pub resting : Resting P k (s .u)
-  pub room : s .visits + leftIn P s ≤ mostVisits (headCount P) + over
+  pub room : s .visits + leftIn P s ≤ mostVisits (headCount capacity P) + over
 
 -- The marks of ancestors are those it was handed (A.6), and what the marks say is so. A TU-tree leaves the T-trees' table alone.
 pub record Walked (P : Program) (k : Tree) (s s′ : State) : Type 0 where
@@ -126,8 +126,8 @@ pub record Settled (P : Program) (s s′ : State) (sure may holds : Bool) : Type
 -- A T-node. Where nothing was known of its literal, and that is a head, it pays for a path walked in vain, and less is left.
 pub record TVisit (P : Program) (s s′ : State) (a : ℕ) (holds : Bool) : Type 0 where
   pub settled : Settled P s s′ (tree P T ∅ ∅ a) (tree P T ∅ (aboveIn (s .t)) a) holds
-  pub pays : getD (s .t) a 0 ≡ 0 → a ∈ headed P → Paid P s s′ (headCount P)
-  pub less : getD (s .t) a 0 ≡ 0 → a ∈ headed P → leftIn P s′ + headCount P < leftIn P s
+  pub pays : getD (s .t) a 0 ≡ 0 → a ∈ headed P → Paid P s s′ (headCount capacity P)
+  pub less : getD (s .t) a 0 ≡ 0 → a ∈ headed P → leftIn P s′ + headCount capacity P < leftIn P s
 
 -- the TU-trees for a literal, with no path above it
 abbrev pub TuSearch : Program → (s s′ : State) → ℕ → Bool → Type 0

@@ -6,13 +6,13 @@ ghost use mathlib.Core.Bool.{_||_};
 ghost use Prim.Native.Nat.{_<_, _≤_};
 ghost use lib.ListN.{length};
 ghost use Rattle.wfsx.specs.Sets.{∅};
-ghost use Rattle.wfsx.specs.Model.{every};
+ghost use Rattle.wfsx.specs.Model.{every, headCount};
 ghost use Rattle.wfsx.specs.Trees.{tree, answer, T, TU};
 ghost use Rattle.litset.specs.Words.{capacity, setOf};
 ghost use Rattle.book.specs.Book.{entryIs, literalIn, bodyOf, programOf};
 ghost use Rattle.index.specs.Index.{supportedBy};
 ghost use Rattle.search.specs.Questions.{treeOf, questionOf, decidedBy};
-ghost use Rattle.search.specs.Bound.{headCount, mostVisits};
+ghost use Rattle.search.specs.Bound.{mostVisits};
 ghost use Rattle.search.specs.Marks.{aboveIn, turned, turnedIn, tLeft, heldLeft, uLeft, isHolds, isFails, found, leafSays};
 ghost use Rattle.search.specs.Walk.{programBy, ruleIn, headIn, state, Ready, TVisit, TuVisit, TuSearch, Asked};
 use book::Book;
@@ -71,7 +71,7 @@ pub fn search_counted(
     tree: Tree,
 ) -> Counted
     ensures { λ r. ⌜ (r .holds ≡ answer (programOf book (setOf (facts .words))) (treeOf tree) (questionOf literal default))
-        × (r .visits ≤ mostVisits (headCount (programOf book (setOf (facts .words))))) ⌝ }
+        × (r .visits ≤ mostVisits (headCount capacity (programOf book (setOf (facts .words))))) ⌝ }
 {
     if litset::CAPACITY <= literal {
         return Counted {
@@ -125,7 +125,7 @@ fn walk<'a>(
 ) -> Counted
     requires { ⌜ literal < capacity ⌝ }
     ensures { λ r. ⌜ (r .holds ≡ tree (programBy (now (first .entry)) (now (rules .entry)) (now (starts .entry)) (now (entries .entry)) (facts .words)) (treeOf kind) ∅ ∅ literal)
-        × (r .visits ≤ mostVisits (headCount (programBy (now (first .entry)) (now (rules .entry)) (now (starts .entry)) (now (entries .entry)) (facts .words)))) ⌝ }
+        × (r .visits ≤ mostVisits (headCount capacity (programBy (now (first .entry)) (now (rules .entry)) (now (starts .entry)) (now (entries .entry)) (facts .words)))) ⌝ }
 {
     let mut t = [0u8; litset::CAPACITY];
     let mut tu = [0u8; litset::CAPACITY];
@@ -161,7 +161,7 @@ fn root<'a>(
     requires { ⌜ (a < capacity) × (Ready (programBy (now first) (now rules) (now starts) (now entries) (facts .words)) T
         (state (now t) (now tu) (now visits)) 0 × (aboveIn (now t) ≡ ∅)) ⌝ }
     ensures { λ r. ⌜ (r ≡ tree (programBy (now (first .entry)) (now (rules .entry)) (now (starts .entry)) (now (entries .entry)) (facts .words)) (treeOf kind) ∅ ∅ a)
-        × (now (visits .exit) ≤ mostVisits (headCount (programBy (now (first .entry)) (now (rules .entry)) (now (starts .entry)) (now (entries .entry)) (facts .words)))) ⌝ }
+        × (now (visits .exit) ≤ mostVisits (headCount capacity (programBy (now (first .entry)) (now (rules .entry)) (now (starts .entry)) (now (entries .entry)) (facts .words)))) ⌝ }
 {
     match kind {
         Tree::T => {
@@ -266,7 +266,7 @@ fn t_node<'a>(
     a: usize,
 ) -> bool
     requires { ⌜ (a < capacity) × Ready (programBy (now first) (now rules) (now starts) (now entries) (facts .words)) T
-        (state (now t) (now tu) (now visits)) (headCount (programBy (now first) (now rules) (now starts) (now entries) (facts .words))) ⌝ }
+        (state (now t) (now tu) (now visits)) (headCount capacity (programBy (now first) (now rules) (now starts) (now entries) (facts .words))) ⌝ }
     ensures { λ r. ⌜ TVisit (programBy (now (first .entry)) (now (rules .entry)) (now (starts .entry)) (now (entries .entry)) (facts .words))
         (state (now (t .entry)) (now (tu .entry)) (now (visits .entry))) (state (now (t .exit)) (now (tu .exit)) (now (visits .exit))) a r ⌝ }
 {

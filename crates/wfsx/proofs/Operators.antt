@@ -1,12 +1,12 @@
 -- Γ and Γs are the least closed sets of the reducts and antitone; so ΓΓs is monotone, the I(k) grow to M, and M is the least fixpoint of ΓΓs.
 use mathlib.Core.Path.{_≡_, refl, sym, _∙_, ap}
-use mathlib.Core.Bool.{not, cond, _&&_}
+use mathlib.Core.Bool.{true, not, cond, _&&_}
 use Prim.Native.Nat.{ℕ, suc}
 use lib.ListN.{length}
 use borrow.Author.Tests.{not-true}
 use Rattle.wfsx.specs.Sets.{Set, _∈_, _∉_, _⊆_, ∅, _isIn_, iterate}
 use Rattle.wfsx.specs.Program.{compl, Program, seminormal}
-use Rattle.wfsx.specs.Model.{LeastClosed, holds, supported, Γ, Γs, I, M, N, is-true, is-false, is-undefined, verdict}
+use Rattle.wfsx.specs.Model.{LeastClosed, holds, supported, headed, Γ, Γs, I, M, N, is-true, is-false, is-undefined, verdict}
 use Rattle.truth.proofs.Truth.{not-intro, and-l, and-r, and-intro}
 use Rattle.wfsx.proofs.Chain.{chain-ind, chain-grows, chain-inside, chain-stops}
 use Rattle.wfsx.proofs.Supported.{supported-map, holds-map, heads, supported-head, heads-most, supported-seminormal, closed-from, closed-to}
@@ -140,3 +140,6 @@ module _ (P : Program) where
 
   pub M-head : (A : ℕ) → A ∈ M P → A isIn heads P
   M-head A h = Γ-head P (N P) A (rw M-from-N at h)
+
+  pub M-headed : M P ⊆ headed P
+  M-headed A h = supported-map (holds (Γ P (N P)) (N P)) (λ _. true) (λ e _. refl) P A (rw (Γ-fixed P (N P)) at (rw M-from-N at h))

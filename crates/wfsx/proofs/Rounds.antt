@@ -1,5 +1,5 @@
--- How many rounds a model takes. Each round before the I(k) stand still takes a head in, so they stand still after at most as many rounds as there are
--- distinct heads; from there on each of them is M.
+-- How many rounds a model takes. Each round before the I(k) stand still takes a literal of M in, which is a head, so they stand still after at most as many
+-- rounds as there are distinct heads; from there on each of them is M.
 use mathlib.Core.Path.{_≡_, refl, sym, _∙_, ap}
 use mathlib.Core.Logic.{_⊎_, inl, inr, ⊎-elim, _↔_}
 use mathlib.Core.Bool.{Bool, true, false, not, cond, _||_}
@@ -13,14 +13,14 @@ use lib.ListN.{length, length-map}
 use borrow.Author.Tests.{not-true}
 use Rattle.wfsx.specs.Sets.{Set, _∈_, _isIn_, members}
 use Rattle.wfsx.specs.Program.{Program}
-use Rattle.wfsx.specs.Model.{Γ, Γs, headed, I, M, Both}
-use Rattle.wfsx.specs.Rounds.{Still, LeastStill, distinctHeads, hasHeads, firstStill, rounds}
+use Rattle.wfsx.specs.Model.{Γ, Γs, headed, headCount, I, M, Both}
+use Rattle.wfsx.specs.Rounds.{Still, LeastStill, hasHeads, firstStill, rounds}
 use Rattle.truth.proofs.Truth.{clash, decided, not-intro, and-l, and-r, and-intro, or-elim, or-l, or-r}
 use Rattle.wfsx.proofs.Sets.{⊆-antisym}
 use Rattle.wfsx.proofs.Members.{members-are, length-most}
 use Rattle.wfsx.proofs.Chain.{chain-stops}
-use Rattle.wfsx.proofs.Supported.{heads, heads-most, supported-head}
-use Rattle.wfsx.proofs.Operators.{Γ-head, ΓΓs, ΓΓs-monotone, I-next, I-grows, I⊆M, M-least, M-head}
+use Rattle.wfsx.proofs.Supported.{heads, heads-most}
+use Rattle.wfsx.proofs.Operators.{Γ-head, ΓΓs, ΓΓs-monotone, I-next, I-grows, I⊆M, M-least, M-head, M-headed}
 
 -- ---- the test of the heads
 
@@ -39,18 +39,6 @@ has-heads (r ∷ P) S U =
     go : ((A : ℕ) → A isIn heads (r ∷ P) → A ∈ U → A ∈ S) → (r .head ∈ U) ⊎ (U (r .head) ≡ false) → S (r .head) || not (U (r .head)) ≡ true
     go f (inl u) = or-l (S (r .head)) _ (f (r .head) (List·Memᴰ·head refl) u)
     go f (inr u) = or-r (S (r .head)) _ (not-intro u)
-
--- the list of distinct heads has every head
-distinct-all : (P : Program) (A : ℕ) → A isIn heads P → A isIn distinctHeads P
-unfolding distinctHeads
-distinct-all (r ∷ P) A m = go (distinct-all P A) (headed P (r .head)) refl m
-  where
-    go : (A isIn heads P → A isIn distinctHeads P) → (b : Bool) → headed P (r .head) ≡ b → A isIn heads (r ∷ P)
-        → A isIn cond b (distinctHeads P) (r .head ∷ distinctHeads P)
-    go rest true e (List·Memᴰ·head q) = rest (rw q (supported-head P (λ _. true) (r .head) e))
-    go rest true e (List·Memᴰ·tail i) = rest i
-    go rest false e (List·Memᴰ·head q) = List·Memᴰ·head q
-    go rest false e (List·Memᴰ·tail i) = List·Memᴰ·tail (rest i)
 
 -- the numbers below n
 abbrev numbers : ℕ → List ℕ
@@ -117,14 +105,15 @@ module _ (P : Program) where
   rounds-within : (H : List ℕ) → ((A : ℕ) → A ∈ M P → A isIn H) → rounds P ≤ length H
   rounds-within H all = rounds-are .least (length H) (still-within H all (length H) (le-refl (length H)))
 
-  -- never above the count of distinct heads
-  pub rounds-most : rounds P ≤ length (distinctHeads P)
-  rounds-most = rounds-within (distinctHeads P) (λ A a. distinct-all P A (M-head P A a))
+  -- where n is above every head: never above the count of distinct heads, and so not above n
+  module _ (n : ℕ) (below : (A : ℕ) → A isIn heads P → A < n) where
+    pub rounds-most : rounds P ≤ headCount n P
+    unfolding headCount
+    rounds-most = rounds-within (members n (headed P)) (λ A a. members-are n (headed P) A .1 (M-headed P A a, below A (M-head P A a)))
 
-  -- so never above a number that is above every head
-  pub rounds-below : (n : ℕ) → ((A : ℕ) → A isIn heads P → A < n) → rounds P ≤ n
-  rounds-below n below =
-      le-trans (rounds-within (numbers n) (λ A a. number-in n A (below A (M-head P A a)))) (length-most (λ _. true) 0 n)
+    pub rounds-below : rounds P ≤ n
+    unfolding headCount
+    rounds-below = le-trans rounds-most (length-most (headed P) 0 n)
 
   -- where M has both literals of no name, never above the count of names: M has at most one literal of each
   pub rounds-by-names : (n : ℕ) → ((A : ℕ) → A isIn heads P → A < 2 * n) → ((i : ℕ) → Both (M P) i → ⊥) → rounds P ≤ n

@@ -5,7 +5,7 @@ use mathlib.Core.List.{List, [], _∷_}
 use Prim.Native.Nat.{ℕ, _+_, _*_}
 use lib.ListN.{length}
 use lib.Dec.{eqb}
-use Rattle.wfsx.specs.Sets.{Set, _∈_, _∉_, _⊆_, ∅, _∖_, _isIn_, iterate}
+use Rattle.wfsx.specs.Sets.{Set, _∈_, _∉_, _⊆_, ∅, _∖_, _isIn_, iterate, members}
 use Rattle.wfsx.specs.Program.{Entry, positive, default, Rule, Program, seminormal}
 
 -- ---- the reduct
@@ -42,6 +42,10 @@ supported (r ∷ P) f A = eqb (r .head) A && every f (r .body) || supported P f 
 -- The literals that are heads of P.
 abbrev pub headed : Program → Set
 headed P = supported P (λ e. true)
+
+-- How many literals below n are heads of P: the count of its distinct heads, where n is above them all.
+unfoldable pub headCount : ℕ → Program → ℕ
+headCount n P = length (members n (headed P))
 
 -- Γ(S), the least set closed under the rules that S keeps: it is reached after as many steps as there are rules, since each step but the
 -- last adds a head.

@@ -1,12 +1,12 @@
 -- How many rounds a model takes (document 02, A.10).
 use mathlib.Core.Path.{_≡_}
 use mathlib.Core.Bool.{Bool, true, not, cond, _&&_, _||_}
-use mathlib.Core.List.{List, [], _∷_}
+use mathlib.Core.List.{[], _∷_}
 use Prim.Native.Nat.{ℕ, zero, suc, _≤_}
 use lib.ListN.{length}
 use Rattle.wfsx.specs.Sets.{Set}
 use Rattle.wfsx.specs.Program.{Program}
-use Rattle.wfsx.specs.Model.{headed, I}
+use Rattle.wfsx.specs.Model.{I}
 
 -- I stands still at k: the round from I(k) to I(k + 1) adds nothing.
 abbrev pub Still : Program → ℕ → Type 0
@@ -16,11 +16,6 @@ Still P k = I P k ≡ I P (suc k)
 pub record LeastStill (P : Program) (k : ℕ) : Type 0 where
   pub still : Still P k
   pub least : (j : ℕ) → Still P j → k ≤ j
-
--- the heads of P, each once
-unfoldable pub distinctHeads : Program → List ℕ
-distinctHeads [] = []
-distinctHeads (r ∷ P) = cond (headed P (r .head)) (distinctHeads P) (r .head ∷ distinctHeads P)
 
 -- ---- the number, worked out: I(0), I(1), .. are gone through, which stand still after at most as many rounds as there are rules
 

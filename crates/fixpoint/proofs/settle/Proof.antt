@@ -3,9 +3,11 @@
 use borrow.Author.Needs.{needs}
 use mathlib.Core.Path.{_≡_, sym, _∙_}
 use mathlib.Core.Bool.{true≢false}
+use Prim.Native.Nat.{ℕ, _<_}
 use native.Mathlib.Omega.{arith}
 use lib.ListN.{length}
-use Rattle.litset.specs.Words.{nWords, setOf}
+use Rattle.wfsx.specs.Sets.{Set, _∈_}
+use Rattle.litset.specs.Words.{nWords, capacity, setOf}
 use Rattle.litset.proofs.Words.{member-room}
 use Rattle.litset.proofs.Room.{free}
 use Rattle.book.specs.Book.{rulesIn, program}
@@ -18,6 +20,19 @@ Inv-loop heads starts entries count facts x₀ rounds₀ x rounds = Round (progr
 
 abbrev μ-loop : tie.MeasureT-loop
 μ-loop heads starts entries count facts x₀ rounds₀ x rounds = free (setOf (x .words))
+
+-- the next set, where it is another one
+abbrev next : tie.Else1 Inv-loop μ-loop → Set
+next c = setOf (c .before .before .gamma-above .result .words)
+
+next-room : (c : tie.Else1 Inv-loop μ-loop) (A : ℕ) → A ∈ next c → A < capacity
+next-room c =
+    let ws = c .before .before .gamma-above .result .words in
+    let size : length ws ≡ nWords = search needs in
+    member-room ws size
+
+next-other : (c : tie.Else1 Inv-loop μ-loop) → setOf (c .before .before .before .before .loop .x .words) ≡ next c → ⊥
+next-other c same = true≢false (sym (c .before .equal .ensures .1 same) ∙ c .if1 .left)
 
 empty-requires : tie.Need-empty-requires Inv-loop μ-loop
 empty-requires c κs = search needs
@@ -48,17 +63,13 @@ add-rounds c =
 
 loop-less : tie.Need-loop-less Inv-loop μ-loop
 loop-less c =
-    let ws = c .before .before .gamma-above .result .words in
-    let size : length ws ≡ nWords = search needs in
     round-falls _ (c .before .before .before .before .loop .inv) (c .before .before .before .gamma-seminormal .ensures) (c .before .before .gamma-above .ensures)
-    (member-room ws size) (λ same. true≢false (sym (c .before .equal .ensures .1 same) ∙ c .if1 .left))
+    (next-room c) (next-other c)
 
 loop-again : tie.Need-loop-again Inv-loop μ-loop
 loop-again c =
-    let ws = c .before .before .gamma-above .result .words in
-    let size : length ws ≡ nWords = search needs in
     round-more _ (c .before .before .before .before .loop .inv) (c .before .before .before .gamma-seminormal .ensures) (c .before .before .gamma-above .ensures)
-    (member-room ws size) (λ same. true≢false (sym (c .before .equal .ensures .1 same) ∙ c .if1 .left))
+    (next-room c) (next-other c)
 
 pub settle-spec : {M : Type 1} → statement M
 settle-spec =
