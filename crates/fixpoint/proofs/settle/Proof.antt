@@ -21,19 +21,6 @@ Inv-loop heads starts entries count facts x₀ rounds₀ x rounds = Round (progr
 abbrev μ-loop : tie.MeasureT-loop
 μ-loop heads starts entries count facts x₀ rounds₀ x rounds = free (setOf (x .words))
 
--- the next set, where it is another one
-abbrev next : tie.Else1 Inv-loop μ-loop → Set
-next c = setOf (c .before .before .gamma-above .result .words)
-
-next-room : (c : tie.Else1 Inv-loop μ-loop) (A : ℕ) → A ∈ next c → A < capacity
-next-room c =
-    let ws = c .before .before .gamma-above .result .words in
-    let size : length ws ≡ nWords = search needs in
-    member-room ws size
-
-next-other : (c : tie.Else1 Inv-loop μ-loop) → setOf (c .before .before .before .before .loop .x .words) ≡ next c → ⊥
-next-other c same = true≢false (sym (c .before .equal .ensures .1 same) ∙ c .if1 .left)
-
 empty-requires : tie.Need-empty-requires Inv-loop μ-loop
 empty-requires c κs = search needs
 
@@ -60,6 +47,19 @@ add-rounds : tie.Need-add-rounds Inv-loop μ-loop
 add-rounds c =
     let within = c .before .before .before .before .loop .inv .within in
     omega arith
+
+-- the next set, where it is another one
+abbrev next : tie.Else1 Inv-loop μ-loop → Set
+next c = setOf (c .before .before .gamma-above .result .words)
+
+next-room : (c : tie.Else1 Inv-loop μ-loop) (A : ℕ) → A ∈ next c → A < capacity
+next-room c =
+    let ws = c .before .before .gamma-above .result .words in
+    let size : length ws ≡ nWords = search needs in
+    member-room ws size
+
+next-other : (c : tie.Else1 Inv-loop μ-loop) → setOf (c .before .before .before .before .loop .x .words) ≡ next c → ⊥
+next-other c same = true≢false (sym (c .before .equal .ensures .1 same) ∙ c .if1 .left)
 
 loop-less : tie.Need-loop-less Inv-loop μ-loop
 loop-less c =
