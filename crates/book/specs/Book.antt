@@ -96,6 +96,10 @@ ruleAt heads starts entries r = record { head = headAt heads r; body = bodyOf st
 abbrev pub rulesIn : List ℕ → List ℕ → List ℕ → ℕ → List Rule
 rulesIn heads starts entries count = rows (ruleAt heads starts entries) 0 count
 
+-- the rules of a table with these numbers
+abbrev pub rulesNumbered : (heads starts entries numbers : List ℕ) → List Rule
+rulesNumbered heads starts entries numbers = map (ruleAt heads starts entries) numbers
+
 abbrev pub rulesOf : Book → List Rule
 rulesOf b = rulesIn (b .heads) (b .starts) (b .entries) (clamp maxRules (b .rules))
 

@@ -21,8 +21,13 @@ module _ (f : Set → Set) (mono : (S U : Set) → S ⊆ U → f S ⊆ f U) wher
   chain-grows zero A h = absurd (clash h refl)
   chain-grows (suc n) A h = mono (iterate f ∅ n) (iterate f ∅ (suc n)) (chain-grows n) A h
 
+  -- from whatever set in U it starts
+  pub chain-within : (S U : Set) → S ⊆ U → f U ⊆ U → (n : ℕ) → iterate f S n ⊆ U
+  chain-within S U s c zero A h = s A h
+  chain-within S U s c (suc n) A h = c A (mono (iterate f S n) U (chain-within S U s c n) A h)
+
   pub chain-inside : (U : Set) → f U ⊆ U → (n : ℕ) → iterate f ∅ n ⊆ U
-  chain-inside U c = chain-ind f (λ A. A ∈ U) (λ D d A h. c A (mono D U d A h))
+  chain-inside U = chain-within ∅ U (λ A h. absurd (clash h refl))
 
   module _ (H : List ℕ) (given : (n A : ℕ) → A ∈ iterate f ∅ (suc n) → A isIn H) where
     abbrev Still : ℕ → Type 0

@@ -13,3 +13,8 @@ pub mod AnswerSets
 pub mod Trees
 pub mod Ancestors
 pub mod Agreement
+pub mod Reach
+pub mod Relevance
+pub mod Steps
+pub mod Order
+pub mod Going

@@ -141,5 +141,9 @@ module _ (P : Program) where
   pub M-head : (A : ℕ) → A ∈ M P → A isIn heads P
   M-head A h = Γ-head P (N P) A (rw M-from-N at h)
 
+  pub N-head : (A : ℕ) → A ∈ N P → A isIn heads P
+  unfolding N
+  N-head A h = Γ-head P (M P) A (Γs⊆Γ (M P) A h)
+
   pub M-headed : M P ⊆ headed P
   M-headed A h = supported-map (holds (Γ P (N P)) (N P)) (λ _. true) (λ e _. refl) P A (rw (Γ-fixed P (N P)) at (rw M-from-N at h))

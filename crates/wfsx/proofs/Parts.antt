@@ -1,19 +1,43 @@
 -- Laws of a part of the rules. Γ is settled by what the rules support: so Γs(S) is Γ(S) of the rules whose head's complement is not in S, and facts
 -- that lie in Γ(S) add nothing to it.
-use mathlib.Core.Path.{_≡_, refl, sym, _∙_}
+use mathlib.Core.Path.{_≡_, refl, sym, _∙_, ap}
 use mathlib.Core.Logic.{_⊎_, inl, inr, ⊎-elim}
-use mathlib.Core.Bool.{Bool, true, false, not, _&&_, _||_, or-false, and-false, false≢true}
-use mathlib.Core.List.{[], _∷_}
+use mathlib.Core.Bool.{Bool, true, false, not, cond, _&&_, _||_, or-false, and-false, false≢true}
+use mathlib.Core.List.{[], _∷_, List·Memᴰ·head, List·Memᴰ·tail, List·Memᴰ·not-nil}
 use Prim.Native.Nat.{ℕ}
 use lib.Dec.{eqb}
 use borrow.Author.Tests.{eqb-true}
 use Rattle.truth.proofs.Truth.{decided, or-elim, or-l}
-use Rattle.wfsx.specs.Sets.{Set, _⊆_, ∅}
-use Rattle.wfsx.specs.Program.{complements, Entry, Program, seminormal, withoutHeads}
+use Rattle.wfsx.specs.Sets.{Set, _∉_, _⊆_, ∅, _isIn_}
+use Rattle.wfsx.specs.Program.{compl, complements, Entry, default, Rule, Program, seminormal, withoutHeads}
 use Rattle.wfsx.specs.Model.{holds, every, supported, Γ, Γs}
 use Rattle.wfsx.proofs.Sets.{⊆-antisym}
 use Rattle.wfsx.proofs.Supported.{supported-seminormal}
 use Rattle.wfsx.proofs.Operators.{Γ-fixed, Γ-inside, Γs-is}
+
+-- the rules of the part
+
+pub without-intro : (B : Set) (P : Program) (r : Rule) → r isIn P → r .head ∉ B → r isIn withoutHeads B P
+unfolding withoutHeads
+without-intro B (q ∷ P) r (List·Memᴰ·head e) h = rw (rw e at h) (List·Memᴰ·head e)
+without-intro B (q ∷ P) r (List·Memᴰ·tail m) h = go (B (q .head)) (without-intro B P r m h)
+  where
+    go : (b : Bool) → r isIn withoutHeads B P → r isIn cond b (withoutHeads B P) (q ∷ withoutHeads B P)
+    go true i = i
+    go false i = List·Memᴰ·tail i
+
+pub without-elim : (B : Set) (P : Program) (r : Rule) → r isIn withoutHeads B P → r isIn P × (r .head ∉ B)
+unfolding withoutHeads
+without-elim B [] r m = absurd (List·Memᴰ·not-nil m)
+without-elim B (q ∷ P) r m = go (B (q .head)) refl m (without-elim B P r)
+  where
+    up : r isIn P × (r .head ∉ B) → r isIn q ∷ P × (r .head ∉ B)
+    up w = (List·Memᴰ·tail (w .0), w .1)
+
+    go : (b : Bool) → B (q .head) ≡ b → r isIn cond b (withoutHeads B P) (q ∷ withoutHeads B P) → (r isIn withoutHeads B P → r isIn P × (r .head ∉ B)) → r isIn q ∷ P × (r .head ∉ B)
+    go true e i rest = up (rest i)
+    go false e (List·Memᴰ·head i) rest = (List·Memᴰ·head i, rw i e)
+    go false e (List·Memᴰ·tail i) rest = up (rest i)
 
 -- the part supports what the whole does, but for the heads that are left out
 pub supported-without : (B : Set) (P : Program) (f : Entry → Bool) (A : ℕ) → supported (withoutHeads B P) f A ≡ (not (B A) && supported P f A)
@@ -47,6 +71,13 @@ pub Γ-with : (P Q : Program) (S X : Set) → X ⊆ Γ P S → ((D : Set) (A : �
 -- programs that support the same have the same Γ(S)
 pub Γ-same : (P Q : Program) (S : Set) → ((D : Set) (A : ℕ) → supported Q (holds D S) A ≡ supported P (holds D S) A) → Γ Q S ≡ Γ P S
 Γ-same P Q S same = Γ-with P Q S ∅ (λ A h. absurd (false≢true h)) (λ D A. same D A ∙ sym (or-false (supported P (holds D S) A)))
+
+-- and the same Γs(S)
+pub Γs-same : (P Q : Program) (S : Set) → ((D : Set) (A : ℕ) → supported Q (holds D S) A ≡ supported P (holds D S) A) → Γs Q S ≡ Γs P S
+Γs-same P Q S same =
+    Γs-is Q S ∙ Γ-same (seminormal P) (seminormal Q) S (λ D A.
+    supported-seminormal Q (holds D S) A ∙ ap (λ (b : Bool). holds D S (default (compl A)) && b) (same D A) ∙ sym (supported-seminormal P (holds D S) A))
+    ∙ sym (Γs-is P S)
 
 -- Γs(S) is Γ(S) of the rules whose head's complement is not in S
 pub Γs-without : (P : Program) (S : Set) → Γs P S ≡ Γ (withoutHeads (complements S) P) S

@@ -92,12 +92,12 @@ supported-seminormal (r ∷ P) f A =
 
 -- ---- the published notion: a set is closed where it has what it supports
 
-every-intro : (f : Entry → Bool) (es : List Entry) → ((e : Entry) → e isIn es → f e ≡ true) → every f es ≡ true
+pub every-intro : (f : Entry → Bool) (es : List Entry) → ((e : Entry) → e isIn es → f e ≡ true) → every f es ≡ true
 unfolding every
 every-intro f [] h = refl
 every-intro f (e ∷ es) h = and-intro (f e) (every f es) (h e (List·Memᴰ·head refl)) (every-intro f es (λ x m. h x (List·Memᴰ·tail m)))
 
-every-elim : (f : Entry → Bool) (es : List Entry) → every f es ≡ true → (e : Entry) → e isIn es → f e ≡ true
+pub every-elim : (f : Entry → Bool) (es : List Entry) → every f es ≡ true → (e : Entry) → e isIn es → f e ≡ true
 unfolding every
 every-elim f (x ∷ es) h e (List·Memᴰ·head q) = ap f q ∙ and-l (f x) (every f es) h
 every-elim f (x ∷ es) h e (List·Memᴰ·tail m) = every-elim f es (and-r (f x) (every f es) h) e m

@@ -1,7 +1,9 @@
--- The definitions: sets of literals, programs, the model, its rounds, answer sets, the pruned trees.
+-- The definitions: sets of literals, programs, the model, its rounds, answer sets, the pruned trees, reach and groups.
 pub mod Sets
 pub mod Program
 pub mod Model
 pub mod Rounds
 pub mod AnswerSets
 pub mod Trees
+pub mod Reach
+pub mod Groups
