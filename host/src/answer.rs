@@ -58,6 +58,47 @@ pub struct Model {
     pub rounds: usize,
 }
 
+/// The names of a book in the order in which they can be settled (document 02, A.5). It comes from the book alone,
+/// whatever facts are put in.
+///
+/// A name reaches itself and every name in the bodies of the rules for either of its literals, and so on from there.
+/// Names that reach each other form a group; a name alone is a group too. Whatever else a group reaches comes earlier,
+/// and of the groups that may come next the one with the lowest name number comes.
+#[derive(Clone, Debug, PartialEq, Eq)]
+pub struct WorkingOrder {
+    /// The numbers of the names of each group, from the lowest on.
+    pub groups: Vec<Vec<usize>>,
+}
+
+impl WorkingOrder {
+    /// The numbers of all names in working order.
+    pub fn names(&self) -> impl Iterator<Item = usize> + '_ {
+        self.groups.iter().flatten().copied()
+    }
+}
+
+/// M and N worked out group by group in working order.
+#[derive(Clone, Debug, PartialEq, Eq)]
+pub struct ModelByGroups {
+    /// M, the literals that are true.
+    pub truths: BTreeSet<usize>,
+    /// N, the literals that aren't false.
+    pub nonfalse: BTreeSet<usize>,
+    /// Whether the lesson is contradictory.
+    pub contradictory: bool,
+}
+
+impl From<Model> for ModelByGroups {
+    /// What the groups of a lesson with this model give.
+    fn from(model: Model) -> ModelByGroups {
+        ModelByGroups {
+            truths: model.truths,
+            nonfalse: model.nonfalse,
+            contradictory: model.contradictory,
+        }
+    }
+}
+
 /// Names of one book (document 01, "The marking file").
 pub const MOST_NAMES: usize = 128;
 /// Rules of one book.

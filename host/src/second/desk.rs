@@ -1,11 +1,12 @@
-//! The calls on one desk (document 01, "When a call is turned down by the state").
+//! The calls on one desk (document 01, "When a call is turned down by the state"; document 02, A.5).
 
 use super::book::Book;
+use super::groups::{model_by_groups, reach, working_order};
 use super::listing::listing;
 use super::model::{contradictory_name, members, verdict, Program};
 use super::reader::read;
 use super::trees::search;
-use crate::answer::{Model, Question, Refused, Verdict};
+use crate::answer::{Model, ModelByGroups, Question, Refused, Verdict, WorkingOrder};
 use std::collections::BTreeSet;
 
 /// A desk: a book, once one is loaded, and the facts put in. M and N don't stand here: each call that
@@ -80,6 +81,20 @@ impl Desk {
             contradictory: contradictory_name(&halves).is_some(),
             rounds: halves.rounds,
         })
+    }
+
+    /// The names in the order in which they can be settled.
+    pub fn working_order(&self) -> Result<WorkingOrder, Refused> {
+        let book = self.loaded()?;
+        let names = book.names.len();
+        let groups = working_order(names, &reach(names, &book.rules));
+        Ok(WorkingOrder { groups })
+    }
+
+    /// M and N worked out group by group in that order.
+    pub fn model_by_groups(&self) -> Result<ModelByGroups, Refused> {
+        let book = self.loaded()?;
+        Ok(model_by_groups(&Program::new(book, &self.facts)))
     }
 
     /// Writes the listing to the buffer's first bytes and answers its length.

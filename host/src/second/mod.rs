@@ -6,6 +6,7 @@
 mod answer_sets;
 mod book;
 mod desk;
+mod groups;
 mod listing;
 mod model;
 mod reader;
@@ -17,6 +18,7 @@ pub use book::{
     MOST_BODY_LITERALS, MOST_BYTES, MOST_IN_A_BODY, MOST_LETTERS, MOST_NAMES, MOST_RULES,
 };
 pub use desk::Desk;
+pub use groups::{model_by_groups, reach, working_order};
 pub use listing::{listing, program_output};
 pub use model::{contradictory_name, gamma, verdict, Halves, Program};
 pub use reader::{read, size};

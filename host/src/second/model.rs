@@ -37,25 +37,30 @@ impl Program {
         program
     }
 
-    /// M, N and the rounds: I(0), I(1) and so on, until two neighbours are equal.
+    /// M, N and the rounds.
     pub fn halves(&self) -> Halves {
-        let seminormal = self.seminormal();
-        let mut truths = vec![false; self.literals];
-        // The set above is I(rounds).
-        let mut rounds = 0;
-        loop {
-            let nonfalse = gamma(&seminormal, &truths);
-            let next = gamma(self, &nonfalse);
-            if next == truths {
-                return Halves {
-                    truths,
-                    nonfalse,
-                    rounds,
-                };
-            }
-            truths = next;
-            rounds += 1;
+        halves_by(self, &self.seminormal())
+    }
+}
+
+/// M, N and the rounds, where Γ is that of one program and Γs is Γ of another: I(0), I(1) and so on, until two
+/// neighbours are equal.
+pub fn halves_by(program: &Program, seminormal: &Program) -> Halves {
+    let mut truths = vec![false; program.literals];
+    // The set above is I(rounds).
+    let mut rounds = 0;
+    loop {
+        let nonfalse = gamma(seminormal, &truths);
+        let next = gamma(program, &nonfalse);
+        if next == truths {
+            return Halves {
+                truths,
+                nonfalse,
+                rounds,
+            };
         }
+        truths = next;
+        rounds += 1;
     }
 }
 
