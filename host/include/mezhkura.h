@@ -18,6 +18,14 @@
  * mezhkura_size takes no desk. It says how many names, rules and body literals a file fills, and refuses exactly the
  * files that a load refuses, with the same number and line.
  *
+ * mezhkura_working_order gives the names of the book in the order in which they can be settled. A name reaches itself
+ * and every name in the bodies of the rules for either of its literals, and so on from there. Names that reach each
+ * other form a group; a name alone is a group too. Whatever else a group reaches comes earlier, and of the groups that
+ * may come next the one with the lowest name number comes. Inside a group names go by number. Facts don't change it.
+ *
+ * mezhkura_model_by_groups works out M and N group by group in that order. They are those of the whole book and the
+ * facts put in. It reads the book and the facts, and not the model that stands in the lesson.
+ *
  * Every call runs on a stack of 512 KB.
  */
 #ifndef MEZHKURA_H
@@ -131,6 +139,29 @@ typedef struct {
     size_t length;
 } mezhkura_listing_reply;
 
+/* The names of a book in working order. Place p has the name with number name[p], of the group with number group[p];
+ * groups count from 0 in working order. Places from `names` on are 0. */
+typedef struct {
+    size_t names;
+    size_t groups;
+    uint16_t name[MEZHKURA_MOST_NAMES];
+    uint16_t group[MEZHKURA_MOST_NAMES];
+} mezhkura_order;
+
+/* A call that is turned down has an order of zeros. */
+typedef struct {
+    uint8_t number;
+    mezhkura_order order;
+} mezhkura_order_reply;
+
+/* M, N, and 1 where the lesson is contradictory. A call that is turned down gives empty sets. */
+typedef struct {
+    uint8_t number;
+    uint8_t contradictory;
+    mezhkura_litset truths;
+    mezhkura_litset nonfalse;
+} mezhkura_groups_reply;
+
 mezhkura_size_reply mezhkura_size(const uint8_t *file, size_t file_len);
 /* Literal 2n is name n, and 2n + 1 its explicit negation ("shown not to be"). */
 mezhkura_desk mezhkura_fresh(void);
@@ -142,6 +173,8 @@ mezhkura_verdict_reply mezhkura_verdict(mezhkura_desk desk, size_t literal);
 mezhkura_search_reply mezhkura_search(mezhkura_desk desk, size_t literal, uint8_t is_default, uint8_t tree);
 mezhkura_model_reply mezhkura_model(mezhkura_desk desk);
 mezhkura_listing_reply mezhkura_listing(mezhkura_desk desk, uint8_t *buffer, size_t buffer_len);
+mezhkura_order_reply mezhkura_working_order(mezhkura_desk desk);
+mezhkura_groups_reply mezhkura_model_by_groups(mezhkura_desk desk);
 
 #ifdef __cplusplus
 }

@@ -2,7 +2,9 @@
 //! book that the list leaves, and says where the two first differ. Beside that it looks after every call
 //! whether the model is that of the book and the facts, whatever came before.
 
-use crate::answer::{BookSize, Model, Question, Refused, Tree, Verdict};
+use crate::answer::{
+    BookSize, Model, ModelByGroups, Question, Refused, Tree, Verdict, WorkingOrder,
+};
 use crate::gen::Call;
 use crate::second::{self, Desk, Program};
 use crate::shrink::shortest_calls;
@@ -21,6 +23,8 @@ pub trait Calls {
     fn search(&self, question: Question) -> Result<bool, Refused>;
     fn model(&self) -> Result<Model, Refused>;
     fn listing(&self, buffer: &mut [u8]) -> Result<usize, Refused>;
+    fn working_order(&self) -> Result<WorkingOrder, Refused>;
+    fn model_by_groups(&self) -> Result<ModelByGroups, Refused>;
     /// All that the desk holds, as bytes in whatever form: a refused call leaves every one of them.
     fn state(&self) -> Vec<u8>;
 }
@@ -57,6 +61,15 @@ pub fn agree(calls: &[Call], other: &mut dyn Calls) -> Result<Asked, Vec<Call>> 
         return Err(calls[..=place].to_vec());
     }
     agree_at_the_end(&second, other).map_err(|call| [calls, &[call]].concat())
+}
+
+/// Whether both desks give the same answers to a list of calls, where nothing is asked behind it. Where they don't, a
+/// short list of calls that shows it, ready to print.
+pub fn answers_agree<D: Calls>(calls: &[Call], fresh: impl Fn() -> D) -> Result<(), String> {
+    match first_difference(calls, &mut Desk::fresh(), &mut fresh()) {
+        Some(_) => Err(explain(calls.to_vec(), fresh)),
+        None => Ok(()),
+    }
 }
 
 /// The second implementation's desk after a list of calls, which are made on another desk as well.
@@ -222,6 +235,8 @@ fn both_answers(call: &Call, second: &mut Desk, other: &mut dyn Calls) -> (Told,
         Call::Search(q) => (second_search(*q, second), told(other.search(*q))),
         Call::Model => (told(second.model()), told(other.model())),
         Call::Listing { margin } => both_listings(*margin, second, other),
+        Call::WorkingOrder => (told(second.working_order()), told(other.working_order())),
+        Call::ModelByGroups => (second_by_groups(second), told(other.model_by_groups())),
     }
 }
 
@@ -250,6 +265,20 @@ fn second_search(question: Question, second: &Desk) -> Told {
     }
 }
 
+/// What the second implementation says of M and N: what it finds group by group, and what it finds in one piece where
+/// that is another thing.
+fn second_by_groups(second: &Desk) -> Told {
+    let whole = second.model().map(ModelByGroups::from);
+    let by_groups = second.model_by_groups();
+    if by_groups == whole {
+        return told(whole);
+    }
+    Told {
+        text: format!("{by_groups:?} by groups, {whole:?} in one piece"),
+        refused: false,
+    }
+}
+
 /// Both listings, with every byte of the lent buffers.
 fn both_listings(margin: isize, second: &Desk, other: &dyn Calls) -> (Told, Told) {
     let due = second.listing(&mut [0; 8192]).unwrap_or(40);
@@ -263,11 +292,16 @@ fn both_listings(margin: isize, second: &Desk, other: &dyn Calls) -> (Told, Told
     (our_answer, their_answer)
 }
 
-/// What was asked after a list (model, listing, and every literal's four searches against M and N), or a
-/// call that is answered differently.
+/// What was asked after a list (model, listing, working order, model by groups, and every literal's four searches
+/// against M and N), or a call that is answered differently.
 fn agree_at_the_end(second: &Desk, other: &mut dyn Calls) -> Result<Asked, Call> {
     let mut copy = second.clone();
-    for call in [Call::Model, Call::Listing { margin: 3 }] {
+    for call in [
+        Call::Model,
+        Call::Listing { margin: 3 },
+        Call::WorkingOrder,
+        Call::ModelByGroups,
+    ] {
         let (ours, theirs) = both(&call, &mut copy, other);
         if ours != theirs {
             return Err(call);

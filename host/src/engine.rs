@@ -23,10 +23,16 @@
 //! let mut buffer = [0; 200];
 //! let length = desk.listing(&mut buffer)?;
 //! assert_eq!(&buffer[..length], b"model,2,1,1,1\n0,brake_held,true,false\n1,may_park,true,false\n");
+//!
+//! // What the names can be settled by comes before them, and by that order the model is the same.
+//! assert_eq!(desk.working_order()?.groups, [[0], [1]]);
+//! assert_eq!(desk.model_by_groups()?.truths, desk.model()?.truths);
 //! # Ok::<(), Refused>(())
 //! ```
 
-use crate::answer::{BookSize, Model, Question, Refused, Tree, Verdict};
+use crate::answer::{
+    BookSize, Model, ModelByGroups, Question, Refused, Tree, Verdict, WorkingOrder,
+};
 use crate::compare::Calls;
 use crate::exports;
 use std::collections::BTreeSet;
@@ -132,6 +138,25 @@ impl Desk {
         accepted(reply.number, 0)?;
         Ok(reply.length)
     }
+
+    /// The names of the book in the order in which they can be settled. Facts don't change it. Refused with 20.
+    pub fn working_order(&self) -> Result<WorkingOrder, Refused> {
+        let reply = unsafe { exports::mezhkura_working_order(*self.0) };
+        accepted(reply.number, 0)?;
+        Ok(groups_of(&reply.order))
+    }
+
+    /// M, N and whether the lesson is contradictory, worked out group by group in working order. It comes from the book
+    /// and the facts, and not from the M and N that a lesson keeps. Refused with 20.
+    pub fn model_by_groups(&self) -> Result<ModelByGroups, Refused> {
+        let reply = unsafe { exports::mezhkura_model_by_groups(*self.0) };
+        accepted(reply.number, 0)?;
+        Ok(ModelByGroups {
+            truths: members(reply.truths),
+            nonfalse: members(reply.nonfalse),
+            contradictory: reply.contradictory != 0,
+        })
+    }
 }
 
 impl fmt::Debug for Desk {
@@ -171,6 +196,16 @@ fn members(set: exports::LitSet) -> BTreeSet<usize> {
     found
 }
 
+/// The groups of an order: places beside each other with the same group number.
+fn groups_of(order: &exports::Order) -> WorkingOrder {
+    let places = order.group.iter().zip(&order.name).take(order.names);
+    let groups = Vec::from_iter(places)
+        .chunk_by(|one, next| one.0 == next.0)
+        .map(|group| group.iter().map(|place| usize::from(*place.1)).collect())
+        .collect();
+    WorkingOrder { groups }
+}
+
 /// For the comparison.
 impl Calls for Desk {
     fn size(&self, file: &[u8]) -> Result<BookSize, Refused> {
@@ -205,6 +240,14 @@ impl Calls for Desk {
         Desk::listing(self, buffer)
     }
 
+    fn working_order(&self) -> Result<WorkingOrder, Refused> {
+        Desk::working_order(self)
+    }
+
+    fn model_by_groups(&self) -> Result<ModelByGroups, Refused> {
+        Desk::model_by_groups(self)
+    }
+
     fn state(&self) -> Vec<u8> {
         // Every field is named here, so that none can be added to a desk and forgotten.
         let exports::Desk { shelf, lesson } = &*self.0;
@@ -237,6 +280,9 @@ impl Calls for Desk {
         bytes
     }
 }
+
+#[cfg(test)]
+mod bits;
 
 #[cfg(test)]
 mod tests {

@@ -123,6 +123,34 @@ pub struct ListingReply {
     pub length: usize,
 }
 
+/// The names of a book in working order. Place p has the name with number `name[p]`, of the group with number
+/// `group[p]`; groups count from 0 in working order. Places from `names` on are 0.
+#[repr(C)]
+#[derive(Clone, Copy, Debug, PartialEq, Eq)]
+pub struct Order {
+    pub names: usize,
+    pub groups: usize,
+    pub name: [u16; MOST_NAMES],
+    pub group: [u16; MOST_NAMES],
+}
+
+/// The reply to the call for the working order. A call that is turned down has an order of zeros.
+#[repr(C)]
+pub struct OrderReply {
+    pub number: u8,
+    pub order: Order,
+}
+
+/// The reply to the call for the model by groups: M, N, and 1 where the lesson is contradictory. A call that is turned
+/// down gives empty sets.
+#[repr(C)]
+pub struct GroupsReply {
+    pub number: u8,
+    pub contradictory: u8,
+    pub truths: LitSet,
+    pub nonfalse: LitSet,
+}
+
 // The sizes that tests/c/desk.c asserts of the structs of include/mezhkura.h.
 const _: () = {
     assert!(size_of::<LitSet>() == 32);
@@ -138,6 +166,9 @@ const _: () = {
     assert!(size_of::<SearchReply>() == 2);
     assert!(size_of::<ModelReply>() == 80);
     assert!(size_of::<ListingReply>() == 16);
+    assert!(size_of::<Order>() == 528);
+    assert!(size_of::<OrderReply>() == 536);
+    assert!(size_of::<GroupsReply>() == 72);
 };
 
 /// The kinds of tree that `mezhkura_search` takes.
@@ -154,4 +185,6 @@ extern "C" {
     pub fn mezhkura_search(desk: Desk, literal: usize, default: u8, tree: u8) -> SearchReply;
     pub fn mezhkura_model(desk: Desk) -> ModelReply;
     pub fn mezhkura_listing(desk: Desk, buffer: *mut u8, buffer_len: usize) -> ListingReply;
+    pub fn mezhkura_working_order(desk: Desk) -> OrderReply;
+    pub fn mezhkura_model_by_groups(desk: Desk) -> GroupsReply;
 }

@@ -109,16 +109,22 @@ pub fn book(random: &mut Random, size: Size) -> Book {
 
 /// A book with all names, rules and body literals that a file may have.
 pub fn full_book(random: &mut Random) -> Book {
-    let mut lengths = [MOST_BODY_LITERALS / MOST_RULES; MOST_RULES];
+    let lengths = lengths_of(random, MOST_RULES, MOST_BODY_LITERALS / MOST_RULES);
+    book_of(random, MOST_NAMES, &lengths)
+}
+
+/// Lengths of so many bodies, with this mean.
+fn lengths_of(random: &mut Random, count: usize, mean: usize) -> Vec<usize> {
+    let mut lengths = vec![mean; count];
     // Moving a body literal from rule to rule keeps their number.
-    for _ in 0..4 * MOST_RULES {
-        let (from, to) = (random.below(MOST_RULES), random.below(MOST_RULES));
+    for _ in 0..4 * count {
+        let (from, to) = (random.below(count), random.below(count));
         if lengths[from] > 0 && lengths[to] < MOST_IN_A_BODY {
             lengths[from] -= 1;
             lengths[to] += 1;
         }
     }
-    book_of(random, MOST_NAMES, &lengths)
+    lengths
 }
 
 /// A book with pairs of literals that are each other's exception, and some rules more, each with a body.
@@ -168,7 +174,13 @@ fn rule_of(random: &mut Random, names: usize, length: usize, negated: usize) -> 
 
 /// A literal that has `-` in `negated` of 16 cases.
 fn literal_of(random: &mut Random, names: usize, negated: usize) -> usize {
-    2 * random.below(names) + usize::from(random.chance(negated, 16))
+    let name = random.below(names);
+    signed(random, name, negated)
+}
+
+/// The same of one name.
+fn signed(random: &mut Random, name: usize, negated: usize) -> usize {
+    2 * name + usize::from(random.chance(negated, 16))
 }
 
 /// A book whose model takes many rounds: each name holds unless the next one is shown, and for each
@@ -353,6 +365,118 @@ pub fn layered_book(levels: usize) -> Book {
         names: (0..names).map(name).collect(),
         rules: (0..names).map(rule).collect(),
     }
+}
+
+/// A book and its groups (document 02, A.5): whatever else a group reaches stands before it.
+pub struct InGroups {
+    pub book: Book,
+    pub groups: Vec<Vec<usize>>,
+}
+
+/// A book with so many names, in groups of at most `largest`. The names of a group follow from each other in a circle.
+/// For each name there are three rules more, with `mean` body literals on average, of its group and of groups before
+/// it; a name alone has a fourth. So the book is full with 128 names and a mean of 5.
+pub fn book_in_groups(random: &mut Random, names: usize, largest: usize, mean: usize) -> InGroups {
+    let mut rest: Vec<usize> = (0..names).collect();
+    shuffle(random, &mut rest);
+    let negated = random.pick(NEGATED);
+    let mut lengths = lengths_of(random, 3 * names, mean);
+    let (mut groups, mut rules, mut before) = (Vec::new(), Vec::new(), Vec::new());
+    while !rest.is_empty() {
+        let group = rest.split_off(rest.len() - random.between(1, largest.min(rest.len())));
+        before.extend(&group);
+        for (place, &name) in group.iter().enumerate() {
+            let next = match group.len() {
+                1 => random.pick(&before),
+                count => group[(place + 1) % count],
+            };
+            rules.push(rule_among(random, name, &[next], 1, negated));
+            let lengths = lengths.split_off(lengths.len() - 3);
+            rules.extend(
+                lengths
+                    .iter()
+                    .map(|&l| rule_among(random, name, &before, l, negated)),
+            );
+        }
+        groups.push(group);
+    }
+    shuffle(random, &mut rules);
+    let names = (0..names).map(name).collect();
+    InGroups {
+        book: Book { names, rules },
+        groups,
+    }
+}
+
+/// Such a book with few names and short bodies.
+pub fn small_book_in_groups(random: &mut Random) -> Book {
+    let names = random.between(1, 12);
+    let (largest, mean) = (random.between(1, names), random.between(1, 4));
+    book_in_groups(random, names, largest, mean).book
+}
+
+/// A rule for a name, with so many body literals of some names.
+fn rule_among(
+    random: &mut Random,
+    head: usize,
+    names: &[usize],
+    length: usize,
+    negated: usize,
+) -> Rule {
+    let head = signed(random, head, negated);
+    let entry = |_| {
+        let name = random.pick(names);
+        Entry {
+            literal: signed(random, name, negated),
+            default: random.chance(1, 2),
+        }
+    };
+    let body = (0..length).map(entry).collect();
+    Rule { head, body }
+}
+
+fn shuffle<T>(random: &mut Random, list: &mut [T]) {
+    for place in (1..list.len()).rev() {
+        list.swap(place, random.below(place + 1));
+    }
+}
+
+/// A book of 128 groups with 512 rules: each name has four, whose bodies have four literals of names with lower numbers,
+/// or with higher ones, and the first of the four has those of its neighbour alone. The name that has no neighbour has
+/// four rules without a body.
+pub fn one_way_book(random: &mut Random, lower: bool) -> Book {
+    let names: Vec<usize> = (0..MOST_NAMES).collect();
+    let negated = random.pick(NEGATED);
+    let mut rules = Vec::new();
+    for n in 0..MOST_NAMES {
+        let (others, neighbour) = match lower {
+            true => (&names[..n], &names[n.saturating_sub(1)..n]),
+            false => (&names[n + 1..], &names[n + 1..MOST_NAMES.min(n + 2)]),
+        };
+        let length = match others {
+            [] => 0,
+            _ => MOST_BODY_LITERALS / MOST_RULES,
+        };
+        rules.push(rule_among(random, n, neighbour, length, negated));
+        for _ in 1..MOST_RULES / MOST_NAMES {
+            rules.push(rule_among(random, n, others, length, negated));
+        }
+    }
+    Book {
+        names: (0..MOST_NAMES).map(name).collect(),
+        rules,
+    }
+}
+
+/// Large books with many small groups, with few large ones and with one, and books in which each name reaches those
+/// with lower numbers, or those with higher ones.
+pub fn books_in_groups(random: &mut Random) -> Vec<Book> {
+    let mut books: Vec<Book> = [1, 3, 16, MOST_NAMES]
+        .map(|largest| book_in_groups(random, MOST_NAMES, largest, 5).book)
+        .into();
+    books.extend([true, false].map(|lower| one_way_book(random, lower)));
+    books.extend([bound_book(MOST_NAMES), rounds_book(MOST_NAMES), slow_book()]);
+    books
 }
 
 /// Books of a shape, the largest of each kind and small ones beside it.
@@ -798,6 +922,8 @@ pub enum Call {
     Listing {
         margin: isize,
     },
+    WorkingOrder,
+    ModelByGroups,
 }
 
 impl fmt::Debug for Call {
@@ -813,6 +939,8 @@ impl fmt::Debug for Call {
             }
             Call::Model => write!(f, "model"),
             Call::Listing { margin } => write!(f, "listing, buffer longer by {margin}"),
+            Call::WorkingOrder => write!(f, "working order"),
+            Call::ModelByGroups => write!(f, "model by groups"),
         }
     }
 }
@@ -842,7 +970,7 @@ pub fn calls_on_circles(random: &mut Random) -> Vec<Call> {
 }
 
 fn call(random: &mut Random, size: Size) -> Call {
-    match random.below(24) {
+    match random.below(28) {
         0 => Call::Load(file(random, size)),
         1..=7 => Call::PutIn(any_literal(random, size)),
         8..=12 => Call::TakeOut(any_literal(random, size)),
@@ -853,6 +981,8 @@ fn call(random: &mut Random, size: Size) -> Call {
             tree: random.pick(&[Tree::T, Tree::TU]),
         }),
         20..=21 => Call::Model,
+        22..=23 => Call::WorkingOrder,
+        24..=25 => Call::ModelByGroups,
         _ => Call::Listing {
             margin: random.pick(&[0, 0, 1, 7, -1, -1, -5, -10_000, 300]),
         },

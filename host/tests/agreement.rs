@@ -6,11 +6,13 @@ mod families;
 
 use families::{header_of, known_rounds};
 use mezhkura::accord::{accords, Accord};
-use mezhkura::answer::{BookSize, Fault, Model, Question, Refused, Tree, Verdict};
+use mezhkura::answer::WorkingOrder;
+use mezhkura::answer::{BookSize, Fault, Model, ModelByGroups, Question, Refused, Tree, Verdict};
 use mezhkura::compare::{agree, answer_by_model, explain, models_stand, questions};
 use mezhkura::compare::{Asked, Calls, Stood, MOST_VISITS};
 use mezhkura::gen::{self, Random, Size, FULL, MIDDLE, SMALL};
 use mezhkura::second::{contradictory_name, every_set, gamma, program_output, read, search, size};
+use mezhkura::second::{model_by_groups, reach, working_order};
 use mezhkura::second::{Book, Desk, Program, Rule, Walk};
 use mezhkura::second::{MOST_BODY_LITERALS, MOST_NAMES};
 use std::collections::BTreeSet;
@@ -398,6 +400,94 @@ impl Wrong {
         }
         Ok(format!("{}\n{lines}", fields.join(",")))
     }
+
+    /// The groups of the book in the wrong order, or other groups.
+    fn misordered(&self, groups: Vec<Vec<usize>>, book: &Book) -> Vec<Vec<usize>> {
+        let names = book.names.len();
+        let ordered = |rules: &[Rule]| working_order(names, &reach(names, rules));
+        let of_rules = |change: &dyn Fn(&mut Vec<Rule>)| {
+            let mut rules = book.rules.clone();
+            change(&mut rules);
+            ordered(&rules)
+        };
+        match self.how {
+            How::NoNameReachesItself => in_a_circle(groups, &book.rules),
+            How::ReachesByPlainLiterals => of_rules(&|rules| {
+                rules
+                    .iter_mut()
+                    .for_each(|rule| rule.body.retain(|entry| !entry.default));
+            }),
+            How::ReachesByRulesForTheName => {
+                of_rules(&|rules| rules.retain(|rule| rule.head % 2 == 0))
+            }
+            How::FactsEndTheReach => {
+                let facts = self.desk.facts();
+                of_rules(&|rules| rules.retain(|rule| !facts.contains(&rule.head)))
+            }
+            How::TakesTheHighestGroup => {
+                downwards(names, &ordered(&renumbered(names, &book.rules)))
+            }
+            How::ListsGroupsByNumber => {
+                let mut groups = groups;
+                groups.sort();
+                groups
+            }
+            _ => groups,
+        }
+    }
+}
+
+/// The groups whose names reach themselves by a rule.
+fn in_a_circle(mut groups: Vec<Vec<usize>>, rules: &[Rule]) -> Vec<Vec<usize>> {
+    let own = |rule: &Rule, name| {
+        rule.head / 2 == name && rule.body.iter().any(|entry| entry.literal / 2 == name)
+    };
+    groups.retain(|group| group.len() > 1 || rules.iter().any(|rule| own(rule, group[0])));
+    groups
+}
+
+/// Rules with the names counted from the last one down.
+fn renumbered(names: usize, rules: &[Rule]) -> Vec<Rule> {
+    let other = |literal: usize| 2 * (names - 1 - literal / 2) + literal % 2;
+    let mut rules = rules.to_vec();
+    for rule in &mut rules {
+        rule.head = other(rule.head);
+        rule.body
+            .iter_mut()
+            .for_each(|entry| entry.literal = other(entry.literal));
+    }
+    rules
+}
+
+/// Groups of names that are counted from the last one down, counted from the first one up.
+fn downwards(names: usize, groups: &[Vec<usize>]) -> Vec<Vec<usize>> {
+    let upwards = |group: &Vec<usize>| group.iter().rev().map(|name| names - 1 - name).collect();
+    groups.iter().map(upwards).collect()
+}
+
+/// M and N worked out group by group, where a step knows of the groups before only what is true: its program is
+/// its own rules, and a fact for each literal of their M.
+fn by_truths_alone(desk: &Desk) -> Result<ModelByGroups, Refused> {
+    let groups = desk.working_order()?.groups;
+    let whole = program_of(desk);
+    let mut model = ModelByGroups::from(Desk::model(desk)?);
+    model.truths.clear();
+    model.nonfalse.clear();
+    for group in groups {
+        let own = |literal: &usize| group.contains(&(literal / 2));
+        let truths = model.truths.iter().map(|&head| Rule {
+            head,
+            body: Vec::new(),
+        });
+        let rules = whole.rules.iter().filter(|rule| own(&rule.head)).cloned();
+        let step = model_by_groups(&Program {
+            literals: whole.literals,
+            rules: truths.chain(rules).collect(),
+        });
+        model.truths.extend(step.truths.into_iter().filter(own));
+        model.nonfalse.extend(step.nonfalse.into_iter().filter(own));
+    }
+    Ok(model)
 }
 
 /// A file in which each line that 6 refuses, though no line before it is the same, declares a name that
@@ -474,6 +564,14 @@ enum How {
     CountsTheConfirmingRound,
     RoundsOfTheBookAlone,
     ListsRoundsBeforeFacts,
+    NoNameReachesItself,
+    ReachesByPlainLiterals,
+    ReachesByRulesForTheName,
+    TakesTheHighestGroup,
+    ListsGroupsByNumber,
+    FactsEndTheReach,
+    StepsForgetFacts,
+    StepsKnowTruthsAlone,
 }
 
 impl Calls for Wrong {
@@ -590,6 +688,21 @@ impl Calls for Wrong {
         }
     }
 
+    fn working_order(&self) -> Result<WorkingOrder, Refused> {
+        let WorkingOrder { groups } = self.desk.working_order()?;
+        let book = self.desk.book().expect("an order is of a book");
+        let groups = self.misordered(groups, book);
+        Ok(WorkingOrder { groups })
+    }
+
+    fn model_by_groups(&self) -> Result<ModelByGroups, Refused> {
+        match self.how {
+            How::StepsForgetFacts => self.without_facts()?.model_by_groups(),
+            How::StepsKnowTruthsAlone => by_truths_alone(&self.desk),
+            _ => self.desk.model_by_groups(),
+        }
+    }
+
     fn state(&self) -> Vec<u8> {
         let last = match self.how {
             How::KeepsTheLastPutIn => self.last,
@@ -687,6 +800,25 @@ fn desks_that_are_wrong_about_rounds_are_found() {
     let text = assert_found(how, random_lists(how, 2_000));
     assert!(text.contains("(listing, "), "{text}");
     assert!(random_models(how, 500).is_ok());
+}
+
+/// Each is shown by the answer that it gets wrong, and nothing else of the desk is wrong.
+#[test]
+fn desks_that_are_wrong_about_groups_are_found() {
+    for (how, call) in [
+        (How::NoNameReachesItself, "(working order)"),
+        (How::ReachesByPlainLiterals, "(working order)"),
+        (How::ReachesByRulesForTheName, "(working order)"),
+        (How::TakesTheHighestGroup, "(working order)"),
+        (How::ListsGroupsByNumber, "(working order)"),
+        (How::FactsEndTheReach, "(working order)"),
+        (How::StepsForgetFacts, "(model by groups)"),
+        (How::StepsKnowTruthsAlone, "(model by groups)"),
+    ] {
+        let text = assert_found(how, random_lists(how, 2_000));
+        assert!(text.contains(call), "{how:?}: {text}");
+        assert!(random_models(how, 100).is_ok(), "{how:?}");
+    }
 }
 
 /// After how many calls of so many lists the model was looked at, or a list after which it doesn't stand.

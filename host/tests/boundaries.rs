@@ -436,6 +436,8 @@ fn number_20_comes_before_21_and_25() {
     assert_eq!(fresh.verdict(0), Err(Refused::NoBook));
     assert_eq!(fresh.search(question(0), 10), Err(Refused::NoBook));
     assert_eq!(fresh.model(), Err(Refused::NoBook));
+    assert_eq!(fresh.working_order(), Err(Refused::NoBook));
+    assert_eq!(fresh.model_by_groups(), Err(Refused::NoBook));
     assert_eq!(fresh.listing(&mut []), Err(Refused::NoBook));
     assert!(fresh.load(b"nonsense\n").is_err());
     assert_eq!(fresh, Desk::fresh());
@@ -481,6 +483,10 @@ fn number_24_is_given_to_a_verdict_after_21_and_to_nothing_else() {
     assert_eq!(desk.verdict(1), Err(Refused::Contradictory));
     assert_eq!(desk.search(question(1), 100), Ok(Some(false)));
     assert!(desk.model().is_ok_and(|model| model.contradictory));
+    assert!(desk
+        .model_by_groups()
+        .is_ok_and(|model| model.contradictory));
+    assert!(desk.working_order().is_ok());
     assert_eq!(desk.put_in(0), Ok(()));
     assert_eq!(desk.listing(&mut [0; 40]), Ok(24));
 }

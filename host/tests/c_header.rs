@@ -63,6 +63,8 @@ fn a_c_program_works_on_a_desk() {
     // book the model call is refused by 20. The verdict of the written sets is 2, and the written rounds are 300.
     let expected = "0 0 22 23\n0 1\n0 1\n0 0 5 5 1\n20 0 0 0 0\n0 2\n0 0 1 5 300\n0 25\n\
         model,2,1,1,1\n0,Brake_Held,true,false\n1,may_park,true,false\n0 0\nmodel,0,0,0,0\n\
-        0 0 2 1 1\n0 0 0 0 0\n9 4 0 0 0\n";
+        0 0 2 1 1\n0 0 0 0 0\n9 4 0 0 0\n\
+        0 2 2: 0 in 0 1 in 1\n0 0 5 5\n20 0 0:\n20 0 0 0\n\
+        0 3 2: 1 in 0 2 in 0 0 in 1\n0 0 0 21\n";
     assert_eq!(String::from_utf8_lossy(&run.stdout), expected);
 }

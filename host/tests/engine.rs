@@ -7,7 +7,7 @@ mod families;
 
 use families::{header_of, known_rounds};
 use mezhkura::accord::{accords, Accord};
-use mezhkura::compare::{agree, explain, models_stand, questions, Asked, Stood};
+use mezhkura::compare::{agree, answers_agree, explain, models_stand, questions, Asked, Stood};
 use mezhkura::engine::Desk;
 use mezhkura::gen::{self, Call, Random, FULL, MIDDLE, SMALL};
 use mezhkura::second::{read, Book};
@@ -48,7 +48,7 @@ fn load_and_look(file: Vec<u8>) -> Vec<Call> {
 
 /// The calls that change nothing.
 fn look(literals: &[usize]) -> Vec<Call> {
-    let mut calls = vec![Call::Model];
+    let mut calls = vec![Call::Model, Call::WorkingOrder, Call::ModelByGroups];
     calls.extend([-1, 0, 9].map(|margin| Call::Listing { margin }));
     calls.extend(literals.iter().map(|&literal| Call::Verdict(literal)));
     let questions = literals.iter().flat_map(|&literal| questions(literal));
@@ -142,6 +142,54 @@ fn rounds_are_known_for_every_count_of_names() {
         assert_eq!(rounds, Ok(known.rounds), "{}", known.header);
         assert_eq!(header_of(|buffer| desk.listing(buffer)), known.header);
     }
+}
+
+/// A load of a book, and facts put in; before and after them the names in working order and the model by groups.
+fn load_and_group(book: &Book, facts: &[usize]) -> Vec<Call> {
+    let look = [Call::WorkingOrder, Call::ModelByGroups];
+    let mut calls = look.to_vec();
+    calls.push(Call::Load(book.to_file().into_bytes()));
+    calls.extend(look.clone());
+    calls.extend(facts.iter().map(|&fact| Call::PutIn(fact)));
+    calls.extend(look);
+    calls
+}
+
+/// Document 02, A.5: many small groups, few large ones, one group of all names, names that reach the lower ones and
+/// names that reach the higher ones, in small books and in full ones.
+#[test]
+fn books_in_groups_agree() {
+    let mut random = Random::new(seed() + 9);
+    let mut lists = Vec::new();
+    let mut list = |random: &mut Random, book: &Book| {
+        let facts = gen::some_literals(random, book);
+        lists.push(load_and_group(book, &facts));
+    };
+    for _ in 0..4_000 {
+        let book = gen::small_book_in_groups(&mut random);
+        list(&mut random, &book);
+    }
+    for _ in 0..10 {
+        let mut books = gen::books_in_groups(&mut random);
+        books.push(gen::full_book(&mut random));
+        books.iter().for_each(|book| list(&mut random, book));
+    }
+    lists.extend(known_rounds().map(|known| load_and_group(&known.book, &known.facts)));
+    for calls in lists {
+        answers_agree(&calls, Desk::fresh).unwrap_or_else(|text| panic!("{text}"));
+    }
+}
+
+/// The searches of such books too.
+#[test]
+fn small_books_in_groups_agree() {
+    let mut random = Random::new(seed() + 10);
+    let lists = (0..1_000).map(|_| {
+        let book = gen::small_book_in_groups(&mut random);
+        let facts = gen::some_literals(&mut random, &book);
+        load_and_group(&book, &facts)
+    });
+    assert!(compare("books in groups", lists).questions > 15_000);
 }
 
 /// M lies inside every answer set and that inside N; true is in all of them, false in none.

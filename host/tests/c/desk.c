@@ -1,6 +1,6 @@
 /* A desk in C: loads a book whose rule spells a name in other capitals, puts in a fact, asks for verdict, search and
  * model, and prints the listing; then loads a file of no bytes and prints its listing. Sizes the book, the file of no
- * bytes and one that is refused. */
+ * bytes and one that is refused. Prints the working order and the model by groups of two books and of none. */
 #include "mezhkura.h"
 
 #include <stdio.h>
@@ -20,6 +20,9 @@ _Static_assert(sizeof(mezhkura_verdict_reply) == 2, "reply to a verdict");
 _Static_assert(sizeof(mezhkura_search_reply) == 2, "reply to a search");
 _Static_assert(sizeof(mezhkura_model_reply) == 80, "reply to the model call");
 _Static_assert(sizeof(mezhkura_listing_reply) == 16, "reply to a listing");
+_Static_assert(sizeof(mezhkura_order) == 528, "working order");
+_Static_assert(sizeof(mezhkura_order_reply) == 536, "reply to the call for the working order");
+_Static_assert(sizeof(mezhkura_groups_reply) == 72, "reply to the call for the model by groups");
 
 static void print_size(const char *file, size_t length)
 {
@@ -32,6 +35,18 @@ static void print_model(mezhkura_model_reply model)
 {
     printf("%d %d %d %d %zu\n", model.number, model.contradictory, (int)model.truths.words[0],
            (int)model.nonfalse.words[0], model.rounds);
+}
+
+/* The names in working order, each with its group; then the first words of M and N by groups. */
+static void print_groups(mezhkura_desk desk)
+{
+    mezhkura_order_reply reply = mezhkura_working_order(desk);
+    printf("%d %zu %zu:", reply.number, reply.order.names, reply.order.groups);
+    for (size_t place = 0; place < reply.order.names; place++)
+        printf(" %d in %d", reply.order.name[place], reply.order.group[place]);
+    mezhkura_groups_reply model = mezhkura_model_by_groups(desk);
+    printf("\n%d %d %d %d\n", model.number, model.contradictory, (int)model.truths.words[0],
+           (int)model.nonfalse.words[0]);
 }
 
 int main(void)
@@ -74,5 +89,11 @@ int main(void)
     print_size(file, 0);
     /* Without its last line the book has no `end`. */
     print_size(file, strlen(file) - 4);
+    /* What a caller writes into the model of the lesson is not read for the groups. */
+    print_groups(written);
+    print_groups(mezhkura_fresh());
+    /* b and c are each other's exception, and a waits for them. */
+    const char *circle = "name,a\nname,b\nname,c\nrule,a,b\nrule,b,~c\nrule,c,~b\nend\n";
+    print_groups(mezhkura_load(written, (const uint8_t *)circle, strlen(circle)).desk);
     return 0;
 }
