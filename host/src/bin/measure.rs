@@ -19,6 +19,7 @@ fn main() -> ExitCode {
         [] => {
             print_calls();
             print_rounds();
+            print_groups();
             print_sizes();
             print_searches();
             print_stack();
@@ -29,8 +30,12 @@ fn main() -> ExitCode {
         ["file", "bound"] => print_file(&file_of(gen::bound_book(MOST_NAMES))),
         ["file", "rounds"] => print_file(&file_of(gen::rounds_book(MOST_NAMES))),
         ["file", "slow"] => print_file(&file_of(gen::slow_book())),
+        ["file", "lower"] => print_file(&one_way_file(true)),
+        ["file", "higher"] => print_file(&one_way_file(false)),
         _ => {
-            eprintln!("usage: measure, or measure file random|chain|bound|rounds|slow");
+            eprintln!(
+                "usage: measure, or measure file random|chain|bound|rounds|slow|lower|higher"
+            );
             return ExitCode::FAILURE;
         }
     }
@@ -101,6 +106,24 @@ fn books_of_many_rounds() -> [Sample; 3] {
     ]
 }
 
+/// The books in which each name reaches those with lower numbers, or those with higher ones.
+fn one_way_books() -> [Sample; 2] {
+    [
+        Sample {
+            label: "lower: 128 groups, 512 rules, bodies of lower names",
+            file: one_way_file(true),
+        },
+        Sample {
+            label: "higher: 128 groups, 512 rules, bodies of higher names",
+            file: one_way_file(false),
+        },
+    ]
+}
+
+fn one_way_file(lower: bool) -> Vec<u8> {
+    file_of(gen::one_way_book(&mut Random::new(1), lower))
+}
+
 fn file_of(book: Book) -> Vec<u8> {
     book.to_file().into_bytes()
 }
@@ -151,24 +174,26 @@ fn mean_of<R>(together: Duration, work: &mut impl FnMut() -> R) -> Duration {
 
 /// The times of one run of each side: the least of five means.
 ///
-/// The sides take turns, so that a change in the machine's speed meets both.
+/// The sides take turns, so that a change in the machine's speed meets all.
+fn times_in_turns<const SIDES: usize>(mut sides: [&mut dyn FnMut(); SIDES]) -> [Duration; SIDES] {
+    let mut least = [Duration::MAX; SIDES];
+    for _ in 0..5 {
+        for (side, least) in sides.iter_mut().zip(&mut least) {
+            *least = mean_of(RUNS_OF_A_CALL, side).min(*least);
+        }
+    }
+    least
+}
+
+/// The same for the engine and the second implementation.
 fn times_of<R, S>(
     mut engine: impl FnMut() -> R,
     mut second: impl FnMut() -> S,
 ) -> (Duration, Duration) {
-    let turns: Vec<_> = (0..5)
-        .map(|_| {
-            (
-                mean_of(RUNS_OF_A_CALL, &mut engine),
-                mean_of(RUNS_OF_A_CALL, &mut second),
-            )
-        })
-        .collect();
-    let least = |side: fn(&(Duration, Duration)) -> Duration| turns.iter().map(side).min();
-    (
-        least(|turn| turn.0).expect("five turns"),
-        least(|turn| turn.1).expect("five turns"),
-    )
+    let [engine, second] = times_in_turns([&mut || drop(black_box(engine())), &mut || {
+        drop(black_box(second()));
+    }]);
+    (engine, second)
 }
 
 fn micros(time: Duration) -> f64 {
@@ -224,6 +249,53 @@ fn print_rounds() {
         let ratio = ratio(change, model);
         println!("| {label} | {rounds} | {change:.2} | {model:.2} | {ratio} |");
     }
+}
+
+/// The working order and the model by groups beside a change of the facts, which works the model out in one piece, and
+/// beside the second implementation's.
+fn print_groups() {
+    println!();
+    println!(
+        "| book | groups | order, µs | by groups, µs | change, µs | by groups / change | second's order, µs \
+         | second's by groups, µs | second's model, µs |"
+    );
+    println!("|---|---|---|---|---|---|---|---|---|");
+    let samples = samples().into_iter().chain(books_of_many_rounds());
+    for Sample { label, file } in samples.chain(one_way_books()) {
+        let (mut engine, mut other) = (Desk::fresh(), second::Desk::fresh());
+        engine.load(&file).expect("the book loads");
+        other.load(&file).expect("the book loads");
+        let order = engine.working_order().expect("a book is loaded");
+        let times = times_of_groups(&engine, &other);
+        let [order_time, by_groups, change, rest @ ..] = times.map(|time| format!("{time:.2}"));
+        let ratio = ratio(times[1], times[2]);
+        println!(
+            "| {label} | {} | {order_time} | {by_groups} | {change} | {ratio} | {} |",
+            order.groups.len(),
+            rest.join(" | ")
+        );
+    }
+}
+
+/// Microseconds of the working order, the model by groups and a change, and of the second implementation's order, model
+/// by groups and model.
+///
+/// The fact that comes and goes is a rule of the book too, where it has one without a body, so that the model stays.
+fn times_of_groups(engine: &Desk, other: &second::Desk) -> [f64; 6] {
+    let book = other.book().expect("a book is loaded");
+    let fact = book.rules.iter().find(|rule| rule.body.is_empty());
+    let fact = fact.map_or(FACT, |rule| rule.head);
+    let mut changed = engine.clone();
+    let mut times = times_in_turns([
+        &mut || drop(black_box(black_box(engine).working_order())),
+        &mut || drop(black_box(black_box(engine).model_by_groups())),
+        &mut || put_in_and_out(&mut changed, fact),
+        &mut || drop(black_box(black_box(other).working_order())),
+        &mut || drop(black_box(black_box(other).model_by_groups())),
+        &mut || drop(black_box(black_box(other).model())),
+    ]);
+    times[2] /= 2;
+    times.map(micros)
 }
 
 /// Sizing beside the load of the same file, in turns. A file without its last line, which is `end`, is
@@ -413,6 +485,8 @@ fn call_on(call: &str, stack: usize) {
         "put-in" => desk.put_in(FACT),
         "model" => desk.model().map(drop),
         "listing" => desk.listing(&mut buffer).map(drop),
+        "order" => desk.working_order().map(drop),
+        "by-groups" => desk.model_by_groups().map(drop),
         "deep" => desk.search(plain(Tree::TU, 0)).map(drop),
         _ => desk.search(question_named(call)).map(drop),
     };
@@ -464,6 +538,8 @@ fn print_stack() {
         ("put in on the full random book", "put-in"),
         ("model of the full random book", "model"),
         ("listing of the full random book", "listing"),
+        ("working order of the full random book", "order"),
+        ("model by groups of the full random book", "by-groups"),
         ("search of the deep book, 60 and 60 names", "deep"),
     ] {
         println!("| {label} | {} |", least_stack(call));
