@@ -58,12 +58,13 @@ pub struct Model {
     pub rounds: usize,
 }
 
-/// The names of a book in the order in which they can be settled (document 02, A.5). It comes from the book alone,
-/// whatever facts are put in.
+/// The names of a book in the order in which they can be settled (document 02, A.5). It comes from the
+/// book alone, whatever facts are put in.
 ///
-/// A name reaches itself and every name in the bodies of the rules for either of its literals, and so on from there.
-/// Names that reach each other form a group; a name alone is a group too. Whatever else a group reaches comes earlier,
-/// and of the groups that may come next the one with the lowest name number comes.
+/// A name reaches itself and every name in the bodies of the rules for either of its literals, and so on
+/// from there. Names that reach each other form a group; a name alone is a group too. Whatever else a
+/// group reaches comes earlier, and of the groups that may come next the one with the lowest name number
+/// comes.
 #[derive(Clone, Debug, PartialEq, Eq)]
 pub struct WorkingOrder {
     /// The numbers of the names of each group, from the lowest on.

@@ -63,8 +63,8 @@ pub fn agree(calls: &[Call], other: &mut dyn Calls) -> Result<Asked, Vec<Call>> 
     agree_at_the_end(&second, other).map_err(|call| [calls, &[call]].concat())
 }
 
-/// Whether both desks give the same answers to a list of calls, where nothing is asked behind it. Where they don't, a
-/// short list of calls that shows it, ready to print.
+/// Whether both desks give the same answers to a list of calls, where nothing is asked behind it. Where
+/// they don't, a short list of calls that shows it, ready to print.
 pub fn answers_agree<D: Calls>(calls: &[Call], fresh: impl Fn() -> D) -> Result<(), String> {
     match first_difference(calls, &mut Desk::fresh(), &mut fresh()) {
         Some(_) => Err(explain(calls.to_vec(), fresh)),
@@ -265,8 +265,8 @@ fn second_search(question: Question, second: &Desk) -> Told {
     }
 }
 
-/// What the second implementation says of M and N: what it finds group by group, and what it finds in one piece where
-/// that is another thing.
+/// What the second implementation says of M and N: what it finds group by group, and what it finds in one
+/// piece where that is another thing.
 fn second_by_groups(second: &Desk) -> Told {
     let whole = second.model().map(ModelByGroups::from);
     let by_groups = second.model_by_groups();
@@ -292,8 +292,8 @@ fn both_listings(margin: isize, second: &Desk, other: &dyn Calls) -> (Told, Told
     (our_answer, their_answer)
 }
 
-/// What was asked after a list (model, listing, working order, model by groups, and every literal's four searches
-/// against M and N), or a call that is answered differently.
+/// What was asked after a list (model, listing, working order, model by groups, and every literal's four
+/// searches against M and N), or a call that is answered differently.
 fn agree_at_the_end(second: &Desk, other: &mut dyn Calls) -> Result<Asked, Call> {
     let mut copy = second.clone();
     for call in [

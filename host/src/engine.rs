@@ -24,7 +24,7 @@
 //! let length = desk.listing(&mut buffer)?;
 //! assert_eq!(&buffer[..length], b"model,2,1,1,1\n0,brake_held,true,false\n1,may_park,true,false\n");
 //!
-//! // What the names can be settled by comes before them, and by that order the model is the same.
+//! // `may_park` follows from `brake_held` and comes after it. Group by group the model is the same.
 //! assert_eq!(desk.working_order()?.groups, [[0], [1]]);
 //! assert_eq!(desk.model_by_groups()?.truths, desk.model()?.truths);
 //! # Ok::<(), Refused>(())
@@ -139,15 +139,16 @@ impl Desk {
         Ok(reply.length)
     }
 
-    /// The names of the book in the order in which they can be settled. Facts don't change it. Refused with 20.
+    /// The names of the book in the order in which they can be settled. Facts don't change it. Refused
+    /// with 20.
     pub fn working_order(&self) -> Result<WorkingOrder, Refused> {
         let reply = unsafe { exports::mezhkura_working_order(*self.0) };
         accepted(reply.number, 0)?;
         Ok(groups_of(&reply.order))
     }
 
-    /// M, N and whether the lesson is contradictory, worked out group by group in working order. It comes from the book
-    /// and the facts, and not from the M and N that a lesson keeps. Refused with 20.
+    /// M, N and whether the lesson is contradictory, worked out group by group in working order. It comes
+    /// from the book and the facts, and not from the M and N that a lesson keeps. Refused with 20.
     pub fn model_by_groups(&self) -> Result<ModelByGroups, Refused> {
         let reply = unsafe { exports::mezhkura_model_by_groups(*self.0) };
         accepted(reply.number, 0)?;

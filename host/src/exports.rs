@@ -141,8 +141,8 @@ pub struct OrderReply {
     pub order: Order,
 }
 
-/// The reply to the call for the model by groups: M, N, and 1 where the lesson is contradictory. A call that is turned
-/// down gives empty sets.
+/// The reply to the call for the model by groups: M, N, and 1 where the lesson is contradictory. A call
+/// that is turned down gives empty sets.
 #[repr(C)]
 pub struct GroupsReply {
     pub number: u8,

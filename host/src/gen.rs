@@ -373,9 +373,10 @@ pub struct InGroups {
     pub groups: Vec<Vec<usize>>,
 }
 
-/// A book with so many names, in groups of at most `largest`. The names of a group follow from each other in a circle.
-/// For each name there are three rules more, with `mean` body literals on average, of its group and of groups before
-/// it; a name alone has a fourth. So the book is full with 128 names and a mean of 5.
+/// A book with so many names, in groups of at most `largest`. The names of a group follow from each other
+/// in a circle. For each name there are three rules more, with `mean` body literals on average, of its
+/// group and of groups before it; a name alone has a fourth. So the book is full with 128 names and a
+/// mean of 5.
 pub fn book_in_groups(random: &mut Random, names: usize, largest: usize, mean: usize) -> InGroups {
     let mut rest: Vec<usize> = (0..names).collect();
     shuffle(random, &mut rest);
@@ -391,12 +392,9 @@ pub fn book_in_groups(random: &mut Random, names: usize, largest: usize, mean: u
                 count => group[(place + 1) % count],
             };
             rules.push(rule_among(random, name, &[next], 1, negated));
-            let lengths = lengths.split_off(lengths.len() - 3);
-            rules.extend(
-                lengths
-                    .iter()
-                    .map(|&l| rule_among(random, name, &before, l, negated)),
-            );
+            for length in lengths.split_off(lengths.len() - 3) {
+                rules.push(rule_among(random, name, &before, length, negated));
+            }
         }
         groups.push(group);
     }
@@ -441,9 +439,9 @@ fn shuffle<T>(random: &mut Random, list: &mut [T]) {
     }
 }
 
-/// A book of 128 groups with 512 rules: each name has four, whose bodies have four literals of names with lower numbers,
-/// or with higher ones, and the first of the four has those of its neighbour alone. The name that has no neighbour has
-/// four rules without a body.
+/// A book of 128 groups with 512 rules: each name has four, whose bodies have four literals of names with
+/// lower numbers, or with higher ones, and the first of the four has those of its neighbour alone. The
+/// name that has no neighbour has four rules without a body.
 pub fn one_way_book(random: &mut Random, lower: bool) -> Book {
     let names: Vec<usize> = (0..MOST_NAMES).collect();
     let negated = random.pick(NEGATED);
@@ -468,8 +466,8 @@ pub fn one_way_book(random: &mut Random, lower: bool) -> Book {
     }
 }
 
-/// Large books with many small groups, with few large ones and with one, and books in which each name reaches those
-/// with lower numbers, or those with higher ones.
+/// Large books with many small groups, with few large ones and with one, and books in which each name
+/// reaches those with lower numbers, or those with higher ones.
 pub fn books_in_groups(random: &mut Random) -> Vec<Book> {
     let mut books: Vec<Book> = [1, 3, 16, MOST_NAMES]
         .map(|largest| book_in_groups(random, MOST_NAMES, largest, 5).book)

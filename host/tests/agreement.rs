@@ -6,8 +6,9 @@ mod families;
 
 use families::{header_of, known_rounds};
 use mezhkura::accord::{accords, Accord};
-use mezhkura::answer::WorkingOrder;
-use mezhkura::answer::{BookSize, Fault, Model, ModelByGroups, Question, Refused, Tree, Verdict};
+use mezhkura::answer::{
+    BookSize, Fault, Model, ModelByGroups, Question, Refused, Tree, Verdict, WorkingOrder,
+};
 use mezhkura::compare::{agree, answer_by_model, explain, models_stand, questions};
 use mezhkura::compare::{Asked, Calls, Stood, MOST_VISITS};
 use mezhkura::gen::{self, Random, Size, FULL, MIDDLE, SMALL};
@@ -413,9 +414,9 @@ impl Wrong {
         match self.how {
             How::NoNameReachesItself => in_a_circle(groups, &book.rules),
             How::ReachesByPlainLiterals => of_rules(&|rules| {
-                rules
-                    .iter_mut()
-                    .for_each(|rule| rule.body.retain(|entry| !entry.default));
+                for rule in rules {
+                    rule.body.retain(|entry| !entry.default);
+                }
             }),
             How::ReachesByRulesForTheName => {
                 of_rules(&|rules| rules.retain(|rule| rule.head % 2 == 0))
@@ -452,9 +453,9 @@ fn renumbered(names: usize, rules: &[Rule]) -> Vec<Rule> {
     let mut rules = rules.to_vec();
     for rule in &mut rules {
         rule.head = other(rule.head);
-        rule.body
-            .iter_mut()
-            .for_each(|entry| entry.literal = other(entry.literal));
+        for entry in &mut rule.body {
+            entry.literal = other(entry.literal);
+        }
     }
     rules
 }
@@ -465,8 +466,8 @@ fn downwards(names: usize, groups: &[Vec<usize>]) -> Vec<Vec<usize>> {
     groups.iter().map(upwards).collect()
 }
 
-/// M and N worked out group by group, where a step knows of the groups before only what is true: its program is
-/// its own rules, and a fact for each literal of their M.
+/// M and N worked out group by group, where a step knows of the groups before only what is true: its
+/// program is its own rules, and a fact for each literal of their M.
 fn by_truths_alone(desk: &Desk) -> Result<ModelByGroups, Refused> {
     let groups = desk.working_order()?.groups;
     let whole = program_of(desk);

@@ -144,7 +144,8 @@ fn rounds_are_known_for_every_count_of_names() {
     }
 }
 
-/// A load of a book, and facts put in; before and after them the names in working order and the model by groups.
+/// A load of a book, and facts put in; before and after them the names in working order and the model by
+/// groups.
 fn load_and_group(book: &Book, facts: &[usize]) -> Vec<Call> {
     let look = [Call::WorkingOrder, Call::ModelByGroups];
     let mut calls = look.to_vec();
@@ -155,8 +156,8 @@ fn load_and_group(book: &Book, facts: &[usize]) -> Vec<Call> {
     calls
 }
 
-/// Document 02, A.5: many small groups, few large ones, one group of all names, names that reach the lower ones and
-/// names that reach the higher ones, in small books and in full ones.
+/// Document 02, A.5: many small groups, few large ones, one group of all names, names that reach the
+/// lower ones and names that reach the higher ones, in small books and in full ones.
 #[test]
 fn books_in_groups_agree() {
     let mut random = Random::new(seed() + 9);

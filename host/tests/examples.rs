@@ -1,8 +1,8 @@
 //! The example books have the listings that stand beside them, and the books of the guide the listings,
-//! figures and answer sets below them.
+//! figures, answer sets and working orders below them.
 
 use mezhkura::second::{answer_sets, program_output, read, size, Book, Desk, Program};
-use std::collections::BTreeSet;
+use std::collections::{BTreeMap, BTreeSet};
 use std::fs;
 use std::path::{Path, PathBuf};
 
@@ -62,10 +62,10 @@ fn blocks(page: &str) -> Vec<Block> {
     blocks
 }
 
-/// The listing of a book after facts, spelt as in rules, were put in.
-fn listing_with_facts(book: &str, facts: &str) -> String {
+/// A desk with a book and facts, spelt as in rules.
+fn desk_with(book: &[u8], facts: &str) -> Desk {
     let mut desk = Desk::fresh();
-    desk.load(book.as_bytes()).expect("the book loads");
+    desk.load(book).expect("the book loads");
     for fact in facts.lines() {
         let name = fact.trim_start_matches('-');
         let number = desk.book().and_then(|book| book.number_of(name));
@@ -73,18 +73,35 @@ fn listing_with_facts(book: &str, facts: &str) -> String {
         desk.put_in(2 * number + usize::from(fact.starts_with('-')))
             .expect("the fact is put in once");
     }
+    desk
+}
+
+/// The listing of a book after facts were put in.
+fn listing_with_facts(book: &str, facts: &str) -> String {
+    let desk = desk_with(book.as_bytes(), facts);
     let mut buffer = vec![0; 8192];
     let length = desk.listing(&mut buffer).expect("the buffer is long");
     String::from_utf8(buffer[..length].to_vec()).expect("a listing is ASCII")
 }
 
-/// The file that a block with figures is about: the book above it, or one of the examples.
-fn sized_file(kind: &str, book: &str) -> Option<Vec<u8>> {
-    if kind == "size" {
-        return Some(book.as_bytes().to_vec());
-    }
-    let example = kind.strip_prefix("size of ")?;
-    Some(fs::read(repository().join(example)).expect("a book of examples"))
+/// The names of a desk's book in working order, a line for each group.
+fn order_of(desk: &Desk) -> Vec<String> {
+    let book = desk.book().expect("a book is loaded");
+    let order = desk.working_order().expect("a book is loaded");
+    let line = |group: &Vec<usize>| {
+        let names: Vec<&str> = group.iter().map(|&n| book.names[n].as_str()).collect();
+        names.join(", ") + "\n"
+    };
+    order.groups.iter().map(line).collect()
+}
+
+fn example(path: &str) -> Vec<u8> {
+    fs::read(repository().join(path)).expect("a book of examples")
+}
+
+fn figures(file: &[u8]) -> String {
+    let size = size(file).expect("the file isn't refused");
+    format!("{size}\n")
 }
 
 /// The answer sets of a book without facts, a line for each, or `none`.
@@ -106,47 +123,81 @@ fn set_line(book: &Book, set: &BTreeSet<usize>) -> String {
     format!("{{{}}}\n", members.join(", "))
 }
 
-#[test]
-fn books_of_the_guide_have_what_stands_below_them() {
-    let page = fs::read_to_string(repository().join("docs/BOOKS.md")).expect("the guide");
-    let (mut book, mut facts) = (String::new(), String::new());
-    let (mut listings, mut sizes, mut answers) = (0, 0, 0);
-    for block in blocks(&page) {
+/// What the blocks of a page say so far: a book, and facts for the next block that shows something.
+#[derive(Default)]
+struct Said {
+    book: String,
+    facts: String,
+}
+
+impl Said {
+    /// What kind of thing a block shows and what has to stand in it, or nothing where it says something.
+    fn due(&mut self, block: &Block) -> Option<(&'static str, String)> {
         match block.kind.as_str() {
-            "book" => book = block.text,
+            "book" => self.book = block.text.clone(),
             "book without the last line end" => {
-                book = block.text.strip_suffix('\n').unwrap_or("").to_string();
+                self.book = block.text.strip_suffix('\n').unwrap_or("").to_string();
             }
-            "put-in" => facts = block.text,
-            "listing" => {
-                let printed = if facts.is_empty() {
-                    program_output(book.as_bytes())
-                } else {
-                    listing_with_facts(&book, &facts)
-                };
-                assert_eq!(printed, block.text, "BOOKS.md, line {}", block.line);
-                facts.clear();
-                listings += 1;
-            }
-            "answer-sets" => {
-                let printed = answer_sets_of(&book);
-                assert_eq!(printed, block.text, "BOOKS.md, line {}", block.line);
-                answers += 1;
-            }
+            "put-in" => self.facts = block.text.clone(),
             kind => {
-                let file = sized_file(kind, &book).unwrap_or_else(|| {
-                    panic!("BOOKS.md, line {}: a block `{kind}`", block.line);
-                });
-                let size = size(&file).expect("the file isn't refused");
-                let printed = format!("{size}\n");
-                assert_eq!(printed, block.text, "BOOKS.md, line {}", block.line);
-                sizes += 1;
+                let facts = std::mem::take(&mut self.facts);
+                return Some(self.shown(kind, &facts, block));
+            }
+        }
+        None
+    }
+
+    /// The same of a block that shows something, after these facts were put in.
+    fn shown(&self, kind: &str, facts: &str, block: &Block) -> (&'static str, String) {
+        let book = self.book.as_bytes();
+        match kind {
+            "listing" if facts.is_empty() => ("listing", program_output(book)),
+            "listing" => ("listing", listing_with_facts(&self.book, facts)),
+            "answer-sets" => ("answer sets", answer_sets_of(&self.book)),
+            "size" => ("size", figures(book)),
+            "order" => ("order", order_of(&desk_with(book, facts)).concat()),
+            _ => {
+                if let Some(path) = kind.strip_prefix("size of ") {
+                    ("size", figures(&example(path)))
+                } else if let Some(path) = kind.strip_prefix("end of the order of ") {
+                    let order = order_of(&desk_with(&example(path), facts));
+                    let lines = block.text.lines().count();
+                    ("order", order[order.len() - lines..].concat())
+                } else {
+                    panic!("BOOKS.md, line {}: a block `{kind}`", block.line)
+                }
             }
         }
     }
-    assert!(listings >= 20, "{listings} listings");
-    assert!(sizes >= 3, "{sizes} sizes");
-    assert!(answers >= 3, "{answers} answers");
+}
+
+#[test]
+fn books_of_the_guide_have_what_stands_below_them() {
+    let page = fs::read_to_string(repository().join("docs/BOOKS.md")).expect("the guide");
+    let mut said = Said::default();
+    let mut shown: BTreeMap<&str, usize> = BTreeMap::new();
+    for block in blocks(&page) {
+        if let Some((kind, due)) = said.due(&block) {
+            assert_eq!(due, block.text, "BOOKS.md, line {}", block.line);
+            *shown.entry(kind).or_default() += 1;
+        }
+    }
+    println!("{shown:?}");
+    assert!(shown["listing"] >= 20, "{shown:?}");
+    for kind in ["size", "answer sets", "order"] {
+        assert!(shown[kind] >= 3, "{shown:?}");
+    }
+}
+
+/// The guide counts the groups of the eleven axles, and says where one name stands.
+#[test]
+fn the_guide_is_right_about_the_order_of_the_eleven_axles() {
+    let order = order_of(&desk_with(&example("examples/eleven_axles.book"), ""));
+    let place = order.iter().position(|line| line == "abs_warning\n");
+    let several = order.iter().filter(|line| line.contains(','));
+    assert_eq!(order.len(), 79);
+    assert_eq!(place, Some(49));
+    assert_eq!(Vec::from_iter(several), ["slow_to_yard, stop_at_once\n"]);
 }
 
 /// The guide has an example for each number that a short file can meet.

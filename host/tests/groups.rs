@@ -1,4 +1,5 @@
-//! The second implementation's working order and model by groups, held against the words of document 02, A.5.
+//! The second implementation's working order and model by groups, held against the words of document 02,
+//! A.5.
 
 use mezhkura::answer::{ModelByGroups, Refused};
 use mezhkura::gen::{self, Random, MIDDLE, SMALL};
@@ -12,8 +13,8 @@ fn seed() -> u64 {
     }
 }
 
-/// Which names a name reaches, without a search: the least relation that has each name with itself, each name with
-/// the names in the bodies of its rules, and with two steps also the one over both.
+/// Which names a name reaches, without a search: the least relation that has each name with itself, each
+/// name with the names in the bodies of its rules, and with two steps also the one over both.
 fn reach_by_steps(book: &Book) -> Vec<Vec<bool>> {
     let names = book.names.len();
     let mut reached = vec![vec![false; names]; names];
@@ -58,8 +59,8 @@ fn checked_order(book: &Book) -> Vec<Vec<usize>> {
     order
 }
 
-/// A group has the names that reach each other and no others; what else it reaches comes earlier; and a later group
-/// with a lower name could not have come in its place.
+/// A group has the names that reach each other and no others; what else it reaches comes earlier; and a
+/// later group with a lower name could not have come in its place.
 fn check_place(
     order: &[Vec<usize>],
     place: usize,
@@ -144,8 +145,8 @@ fn groups_are_those_that_a_book_is_made_of() {
     }
 }
 
-/// Bodies of lower names alone give the order by number, those of higher ones the same order from its end, and the
-/// books of most rounds one group, and as many as there are names.
+/// Bodies of lower names alone give the order by number, those of higher ones the same order from its
+/// end, and the books of most rounds one group, and as many as there are names.
 #[test]
 fn orders_of_long_books_are_known() {
     let mut random = Random::new(seed() + 2);
@@ -176,8 +177,8 @@ fn desk_with(book: &Book, facts: &[usize]) -> Desk {
     desk
 }
 
-/// The model by groups is M and N of the whole, and facts leave the order as it is. Answers whether the lesson is
-/// contradictory, and whether something is undefined.
+/// The model by groups is M and N of the whole, and facts leave the order as it is. Answers whether the
+/// lesson is contradictory, and whether something is undefined.
 fn check_model(book: &Book, facts: &[usize]) -> (bool, bool) {
     let (desk, without) = (desk_with(book, facts), desk_with(book, &[]));
     let whole = desk.model().expect("a book is loaded");
@@ -261,12 +262,13 @@ fn orders_of_short_books() {
     }
 }
 
-/// Case 1 of document 01: `moving` and `locked` are each other's exception, and `fault` waits for them and for
-/// `stalled`.
+/// Case 1 of document 01: `moving` and `locked` are each other's exception, and `fault` waits for them
+/// and for `stalled`.
 #[test]
 fn order_of_case_1() {
-    let file = "name,moving\nname,locked\nname,fault\nname,stalled\nrule,moving,~locked\nrule,locked,~moving\n\
-        rule,fault,moving,~stalled\nrule,-locked\nrule,stalled,~stalled\nend\n";
+    let file = "name,moving\nname,locked\nname,fault\nname,stalled\n\
+        rule,moving,~locked\nrule,locked,~moving\nrule,fault,moving,~stalled\n\
+        rule,-locked\nrule,stalled,~stalled\nend\n";
     let mut desk = Desk::fresh();
     assert_eq!(desk.working_order(), Err(Refused::NoBook));
     assert_eq!(desk.model_by_groups(), Err(Refused::NoBook));

@@ -251,13 +251,13 @@ fn print_rounds() {
     }
 }
 
-/// The working order and the model by groups beside a change of the facts, which works the model out in one piece, and
-/// beside the second implementation's.
+/// The working order and the model by groups beside a change of the facts, which works the model out in
+/// one piece, and beside the second implementation's.
 fn print_groups() {
     println!();
     println!(
-        "| book | groups | order, µs | by groups, µs | change, µs | by groups / change | second's order, µs \
-         | second's by groups, µs | second's model, µs |"
+        "| book | groups | order, µs | by groups, µs | change, µs | by groups / change \
+         | second's order, µs | second's by groups, µs | second's model, µs |"
     );
     println!("|---|---|---|---|---|---|---|---|---|");
     let samples = samples().into_iter().chain(books_of_many_rounds());
@@ -277,10 +277,11 @@ fn print_groups() {
     }
 }
 
-/// Microseconds of the working order, the model by groups and a change, and of the second implementation's order, model
-/// by groups and model.
+/// Microseconds of the working order, the model by groups and a change, and of the second
+/// implementation's order, model by groups and model.
 ///
-/// The fact that comes and goes is a rule of the book too, where it has one without a body, so that the model stays.
+/// The fact that comes and goes is a rule of the book too, where it has one without a body, so that the
+/// model stays.
 fn times_of_groups(engine: &Desk, other: &second::Desk) -> [f64; 6] {
     let book = other.book().expect("a book is loaded");
     let fact = book.rules.iter().find(|rule| rule.body.is_empty());

@@ -1,5 +1,6 @@
-//! Desks of whatever bits. What they mean is read from their fields here, as `crates/book/specs/Book.antt` says it, and
-//! the working order and the model by groups are those of that meaning.
+//! Desks of whatever bits. What they mean is read from their fields here, as
+//! `crates/book/specs/Book.antt` says it, and the working order and the model by groups are those of that
+//! meaning.
 
 use super::{exports, members, Desk};
 use crate::answer::{ModelByGroups, MOST_BODY_LITERALS, MOST_NAMES, MOST_RULES};
@@ -60,7 +61,8 @@ fn meaning(desk: &exports::Desk) -> String {
     format!("loaded {loaded}, {names} names, {rules:?}, facts {facts:?}")
 }
 
-/// The order of so many names by some rules, place by place. Names past these are passed through and not listed.
+/// The order of so many names by some rules, place by place. Names past these are passed through and not
+/// listed.
 fn order_by(names: usize, rules: &[Rule]) -> exports::Order {
     let mut order = exports::Order {
         names: 0,
@@ -122,8 +124,8 @@ fn check(desk: &exports::Desk) -> (exports::Order, ModelByGroups) {
     (reply.order, due)
 }
 
-/// A desk of random bits. In plain bits nearly every body is empty or has hundreds of literals, so most desks have
-/// chosen starts, and literals that are few by remainder.
+/// A desk of random bits. In plain bits nearly every body is empty or has hundreds of literals, so most
+/// desks have chosen starts, and literals that are few by remainder.
 fn desk_of_bits(random: &mut Random) -> exports::Desk {
     let mut desk = plain_bits(random);
     if random.chance(1, 8) {

@@ -4,8 +4,8 @@ use super::book::{complement, Entry, Rule};
 use super::model::{halves_by, members, Program};
 use crate::answer::ModelByGroups;
 
-/// For each of so many names, which names it reaches: itself and every name in the bodies of the rules for either of
-/// its literals, and so on from there. The rules have no other names.
+/// For each of so many names, which names it reaches: itself and every name in the bodies of the rules
+/// for either of its literals, and so on from there. The rules have no other names.
 pub fn reach(names: usize, rules: &[Rule]) -> Vec<Vec<bool>> {
     (0..names)
         .map(|name| reached_from(name, names, rules))
@@ -29,8 +29,8 @@ fn reached_from(name: usize, names: usize, rules: &[Rule]) -> Vec<bool> {
     reached
 }
 
-/// The groups of the first `count` names in working order. A name behind these is reached like any other, but it isn't
-/// listed, and no group waits for it.
+/// The groups of the first `count` names in working order. A name behind these is reached like any other,
+/// but it isn't listed, and no group waits for it.
 pub fn working_order(count: usize, reach: &[Vec<bool>]) -> Vec<Vec<usize>> {
     let mut rest = groups(count, reach);
     let mut order = Vec::new();
@@ -89,8 +89,8 @@ pub fn model_by_groups(program: &Program) -> ModelByGroups {
 
 /// M and N of one group, from its rules, facts among them, and from M and N of the groups before.
 ///
-/// In Γ a literal of a group before holds where it is in M, and "not" of it where it isn't in N. In Γs it is the other
-/// way round.
+/// In Γ a literal of a group before holds where it is in M, and "not" of it where it isn't in N. In Γs it
+/// is the other way round.
 fn step(rules: &[&Rule], own: impl Fn(usize) -> bool, before: &Settled) -> Settled {
     let Settled { truths, nonfalse } = before;
     let in_gamma = with_values(rules, &own, truths, nonfalse);
@@ -102,8 +102,8 @@ fn step(rules: &[&Rule], own: impl Fn(usize) -> bool, before: &Settled) -> Settl
     }
 }
 
-/// The rules of a group without the literals of the groups before. A rule stays where all of these hold: a literal that
-/// is in `shown`, and "not" of one that isn't in `possible`.
+/// The rules of a group without the literals of the groups before. A rule stays where all of these hold:
+/// a literal that is in `shown`, and "not" of one that isn't in `possible`.
 fn with_values(
     rules: &[&Rule],
     own: impl Fn(usize) -> bool,

@@ -43,8 +43,8 @@ impl Program {
     }
 }
 
-/// M, N and the rounds, where Γ is that of one program and Γs is Γ of another: I(0), I(1) and so on, until two
-/// neighbours are equal.
+/// M, N and the rounds, where Γ is that of one program and Γs is Γ of another: I(0), I(1) and so on,
+/// until two neighbours are equal.
 pub fn halves_by(program: &Program, seminormal: &Program) -> Halves {
     let mut truths = vec![false; program.literals];
     // The set above is I(rounds).
