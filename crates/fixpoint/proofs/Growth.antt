@@ -1,29 +1,29 @@
 -- Γ and Γs by passes. From the start on, every set that the passes reach lies in Γ; where a pass adds nothing the set is closed, so Γ lies in it.
--- M by rounds of the two: each set reached is an I(k), and the first that ΓΓs keeps is M. Each round before takes in a literal, so they can be counted.
-use mathlib.Core.Path.{_≡_, sym, _∙_, ap}
+-- Rounds of the two from a set that the first round keeps: each set reached lies in the next. Each round before they stand still takes in a literal, so they
+-- can be counted.
+use mathlib.Core.Path.{_≡_, refl, sym, _∙_, ap}
 use mathlib.Core.Logic.{_⊎_, inl, inr}
 use mathlib.Core.Bool.{Bool, true, false, not, _&&_, _||_, and-true, and-false, or-assoc}
 use mathlib.Core.List.{List}
 use Prim.Native.Nat.{ℕ, suc, _+_, _≤_, _<_}
-use native.Mathlib.Nat.{le-of-eq}
 use native.Mathlib.Numerals.{add-one}
 use native.Mathlib.Decide.{ℕ-discrete}
 use native.Mathlib.Omega.{arith}
 use borrow.Author.Tests.{not-true}
-use Rattle.wfsx.specs.Sets.{Set, _∈_, _⊆_, ∅, _∪_, _∖_}
+use Rattle.wfsx.specs.Sets.{Set, _∈_, _⊆_, ∅, _∪_, _∖_, iterate}
 use Rattle.wfsx.specs.Program.{complements, Rule, Program, withoutHeads}
-use Rattle.wfsx.specs.Model.{holds, supported, Γ, Γs, I, M, N}
-use Rattle.wfsx.specs.Rounds.{Still, rounds}
+use Rattle.wfsx.specs.Model.{holds, supported, Γ, Γs}
 use Rattle.truth.proofs.Truth.{not-intro, and-l, and-r, and-intro, or-elim, or-l, or-r}
 use Rattle.wfsx.proofs.Sets.{⊆-antisym}
 use Rattle.wfsx.proofs.Parts.{supported-without, Γ-with, Γ-same, Γs-without}
 use Rattle.wfsx.proofs.Facts.{supported-facts}
-use Rattle.wfsx.proofs.Operators.{Γ-fixed, Γ-inside, I-grows, N-is, I-none, I-next}
-use Rattle.wfsx.proofs.Rounds.{rounds-only, M-from-rounds}
+use Rattle.wfsx.proofs.Operators.{Γ-fixed, Γ-inside}
+use Rattle.wfsx.proofs.Steps.{round-monotone}
 use Rattle.litset.specs.Words.{capacity}
 use Rattle.litset.proofs.Room.{free, free-most, free-falls}
 use Rattle.book.specs.Book.{program}
 use Rattle.fixpoint.specs.Pass.{pass}
+use Rattle.fixpoint.specs.Result.{roundOf}
 use Rattle.fixpoint.proofs.Pass.{Full, pass-grows, pass-inside, pass-still}
 
 -- ---- passes over some rules, where the heads in B are shut and S decides the `not` entries
@@ -108,30 +108,34 @@ module _ (rules : List Rule) (F : Set) (below : (A : ℕ) → A ∈ F → A < ca
       both true r f = and-false f
       both false r f = ap (λ (t : Bool). r || t) (and-true f)
 
--- ---- M and N
+-- ---- rounds from X₀, with Γ over P and Γs over Q
 
-module _ (P : Program) where
-  -- X is I(k), and no round before added nothing; each took in a literal of those that a set has room for
+module _ (P Q : Program) (X₀ : Set) where
+  abbrev reached : ℕ → Set
+  reached = iterate (roundOf P Q) X₀
+
+  -- X is reached after k rounds, and no round before added nothing; each took in a literal of those that a set has room for
   pub record Round (k : ℕ) (X : Set) : Type 0 where
-    pub is : X ≡ I P k
-    pub first : (j : ℕ) → Still P j → k ≤ j
+    pub is : X ≡ reached k
+    pub grown : X ⊆ roundOf P Q X
+    pub first : (j : ℕ) → reached j ≡ reached (suc j) → k ≤ j
     pub within : k + free X ≤ capacity
 
-  pub round-start : {X : Set} → X ≡ ∅ → Round 0 X
-  round-start {X} e = record { is = e ∙ sym (I-none P); first = λ j s. omega arith; within = omega (arith, free-most X) }
+  pub round-start : X₀ ⊆ roundOf P Q X₀ → Round 0 X₀
+  round-start h = record { is = refl; grown = h; first = λ j s. omega arith; within = omega (arith, free-most X₀) }
 
-  module _ {k : ℕ} {X U : Set} (g : Round k X) (u : U ≡ Γs P X) where
-    next-is : Γ P U ≡ I P (suc k)
-    next-is = ap (Γ P) (u ∙ ap (Γs P) (g .is)) ∙ sym (I-next P k)
-
+  module _ {k : ℕ} {X U : Set} (g : Round k X) (u : U ≡ Γs Q X) where
     -- U is Γs(X): X lies in Γ(U)
     pub round-inside : X ⊆ Γ P U
-    round-inside A a = rw next-is (I-grows P k A (rw (g .is) at a))
+    round-inside A a = rw u (g .grown A a)
 
     -- and Y is Γ(U)
     module _ {Y : Set} (y : Y ≡ Γ P U) where
-      next : Y ≡ I P (suc k)
-      next = y ∙ next-is
+      next : Y ≡ roundOf P Q X
+      next = y ∙ ap (Γ P) u
+
+      next-is : Y ≡ reached (suc k)
+      next-is = next ∙ ap (roundOf P Q) (g .is)
 
       module _ (small : (A : ℕ) → A ∈ Y → A < capacity) (ne : X ≡ Y → ⊥) where
         pub round-falls : free Y < free X
@@ -140,23 +144,18 @@ module _ (P : Program) where
         pub round-more : Round (k + 1) Y
         round-more =
             record {
-              is = next ∙ ap (I P) (sym (add-one k));
+              is = next-is ∙ ap reached (sym (add-one k));
+              grown = λ A a. rw next (round-monotone P Q X (roundOf P Q X) (g .grown) A (rw next at a));
               first = later;
               within = let falls = round-falls in let before = g .within in omega arith;
             }
           where
-            later : (j : ℕ) → Still P j → k + 1 ≤ j
+            later : (j : ℕ) → reached j ≡ reached (suc j) → k + 1 ≤ j
             later j s = go (ℕ-discrete j k)
               where
                 go : Dec (j ≡ k) → k + 1 ≤ j
-                go (yes e) = absurd (ne (g .is ∙ rw e at s ∙ sym next))
+                go (yes e) = absurd (ne (g .is ∙ rw e at s ∙ sym next-is))
                 go (no e) = omega (arith, g .first j s)
 
-      pub round-end : X ≡ Y → (Y ≡ M P) × (U ≡ N P) × (k ≡ rounds P)
-      round-end e = (sym e ∙ same, u ∙ ap (Γs P) same ∙ sym (N-is P), least)
-        where
-          least : k ≡ rounds P
-          least = rounds-only P k (record { still = sym (g .is) ∙ e ∙ next; least = g .first })
-
-          same : X ≡ M P
-          same = g .is ∙ M-from-rounds P k (le-of-eq (sym least))
+      pub round-end : X ≡ Y → (Y ≡ reached k) × (Y ≡ roundOf P Q Y) × (U ≡ Γs Q Y)
+      round-end e = (sym e ∙ g .is, next ∙ ap (roundOf P Q) e, u ∙ ap (Γs Q) e)

@@ -2,4 +2,5 @@
 pub mod Pass
 pub mod Tables
 pub mod Growth
+pub mod Settled
 pub mod Published

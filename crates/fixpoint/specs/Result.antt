@@ -1,22 +1,45 @@
--- What a model and a verdict are (document 01, "From rules to a model"; 001, definition 2; document 02, A.10).
+-- What a model, a step of the model by groups, and a verdict are (document 01, "From rules to a model"; 001, definition 2; document 02, A.5 and A.10).
 use mathlib.Core.Path.{_≡_}
 use mathlib.Core.Bool.{cond}
-use Prim.Native.Nat.{ℕ}
-use Rattle.wfsx.specs.Sets.{Set}
+use Prim.Native.Nat.{ℕ, suc, _≤_}
+use Rattle.wfsx.specs.Sets.{Set, iterate}
 use Rattle.wfsx.specs.Program.{Program}
-use Rattle.wfsx.specs.Model.{M, N, is-true, is-false, is-undefined}
+use Rattle.wfsx.specs.Model.{Γ, Γs, M, N, is-true, is-false, is-undefined}
 use Rattle.wfsx.specs.Model as wfsx
 use Rattle.wfsx.specs.Rounds.{rounds}
-use Rattle.litset.specs.Words.{setOf}
+use Rattle.wfsx.specs.Groups.{step}
+use Rattle.wfsx.specs.Groups as groups
+use Rattle.litset.specs.Words.{capacity, setOf}
 use Rattle.fixpoint.specs.declared.Verdict.{Verdict}
 use Rattle.fixpoint.specs.declared.Verdict.the-variants.{True, False, Undefined}
 use Rattle.fixpoint.specs.declared.Model.{Model}
+use Rattle.fixpoint.specs.declared.Values.{Values}
+
+-- one round, with Γ over P and Γs over Q
+abbrev pub roundOf : Program → Program → Set → Set
+roundOf P Q S = Γ P (Γs Q S)
+
+-- where rounds from S come to a stop: the first set that stays the same, Γs of it, and how many rounds lead to it
+pub record SettledFrom (P Q : Program) (S : Set) (m : Model) : Type 0 where
+  pub reached : setOf (m .truths .words) ≡ iterate (roundOf P Q) S (m .rounds)
+  pub still : setOf (m .truths .words) ≡ roundOf P Q (setOf (m .truths .words))
+  pub nonfalse : setOf (m .nonfalse .words) ≡ Γs Q (setOf (m .truths .words))
+  pub first : (j : ℕ) → iterate (roundOf P Q) S j ≡ iterate (roundOf P Q) S (suc j) → m .rounds ≤ j
 
 -- the model of P: M, N, and how many rounds M takes
 pub record ModelOf (P : Program) (m : Model) : Type 0 where
   pub truths : setOf (m .truths .words) ≡ M P
   pub nonfalse : setOf (m .nonfalse .words) ≡ N P
   pub rounds : m .rounds ≡ rounds P
+
+-- what `Values` of the code say
+abbrev pub valuesOf : Values → groups.Values
+valuesOf v = record { truths = setOf (v .truths .words); nonfalse = setOf (v .nonfalse .words) }
+
+-- the values after the step with the group's rules G, facts too, whatever the values before
+pub record StepOf (G : Program) (before after : Values) : Type 0 where
+  pub truths : setOf (after .truths .words) ≡ step capacity G (valuesOf before) .truths
+  pub nonfalse : setOf (after .nonfalse .words) ≡ step capacity G (valuesOf before) .nonfalse
 
 -- the words of a verdict
 abbrev pub verdictIs : Verdict → wfsx.Verdict

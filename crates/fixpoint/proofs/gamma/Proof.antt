@@ -1,27 +1,50 @@
--- `gamma`: the book's tables hold its rules, and the empty set lies in every set.
+-- `gamma`: the numbers of the book's rules are the first ones, and the empty set lies in every set.
 use borrow.Author.Needs.{needs}
 use mathlib.Core.Path.{sym, ap, _∙_}
-use mathlib.Core.Bool.{false≢true}
-use Rattle.wfsx.specs.Sets.{Set}
+use lib.ListN.{length}
+use Rattle.wfsx.specs.Program.{Program}
+use Rattle.wfsx.specs.Model.{Γ}
 use Rattle.litset.specs.Words.{setOf}
-use Rattle.book.proofs.Heads.{program-of}
+use Rattle.book.proofs.Rows.{rows-length}
+use Rattle.fixpoint.proofs.Tables.{book-program}
+use Rattle.fixpoint.proofs.Settled.{starts-empty}
 use Rattle.fixpoint.proofs.gamma.Statement.{statement}
 use Rattle.fixpoint.proofs.gamma.Tie as tie
 
 rule-count-requires : tie.Need-rule-count-requires
 rule-count-requires c κs = search needs
 
+all-numbers-requires : tie.Need-all-numbers-requires
+all-numbers-requires c κs = search needs
+
+array-share-prefix-numbers : tie.Need-array-share-prefix-numbers
+array-share-prefix-numbers c = search needs
+
+slice-aggregate-gamma-above : tie.Need-slice-aggregate-gamma-above
+slice-aggregate-gamma-above c =
+    let numbers = c .before .before .before .before .before .before .before .before in
+    sym (ap length (numbers .all-numbers .ensures) ∙ rows-length (λ k. k) 0 _)
+
 empty-requires : tie.Need-empty-requires
 empty-requires c κs = search needs
 
 gamma-above-requires : tie.Need-gamma-above-requires
-gamma-above-requires c κs = λ A h. absurd (false≢true (sym (ap (λ (S : Set). S A) (c .empty .ensures)) ∙ h))
+gamma-above-requires c κs = starts-empty (c .empty .ensures) _
 
 returns : tie.Need-returns
 returns c =
-    let counted = c .before .before .before .before .before .before .before .before .before in
-    let args = counted .before .args in
-    rw (program-of (args .t1) (setOf (args .facts .words))) (rw (counted .rule-count .ensures) at (c .gamma-above .ensures))
+    let numbers = c .before .before .before .before .before .before .before .before .before .before in
+    let args = numbers .before .before .args in
+    c .gamma-above .ensures ∙ ap (λ (P : Program). Γ P (setOf (args .s .words))) (book-program (args .t1) (setOf (args .facts .words)) (numbers .before .rule-count .ensures) (numbers .all-numbers .ensures))
 
 pub gamma-spec : {M : Type 1} → statement M
-gamma-spec = tie.close (tie.spec rule-count-requires empty-requires gamma-above-requires returns)
+gamma-spec =
+    tie.close
+    (tie.spec
+    rule-count-requires
+    all-numbers-requires
+    array-share-prefix-numbers
+    slice-aggregate-gamma-above
+    empty-requires
+    gamma-above-requires
+    returns)

@@ -23,7 +23,7 @@ facts-size c = search needs
 returns : tie.Need-returns
 returns c =
     let joined = c .before .before in
-    let start = joined .before .before .before .before in
+    let start = joined .before .before .before .before .before in
     let facts = start .args .facts .words in
     let both : length (joined .union .result .words) ≡ nWords = search needs in
     c .least-closed .ensures

@@ -1,21 +1,45 @@
--- `gamma_s`: the book's tables hold its rules.
+-- `gamma_s`: the numbers of the book's rules are the first ones.
 use borrow.Author.Needs.{needs}
+use mathlib.Core.Path.{sym, ap, _∙_}
+use lib.ListN.{length}
+use Rattle.wfsx.specs.Program.{Program}
+use Rattle.wfsx.specs.Model.{Γs}
 use Rattle.litset.specs.Words.{setOf}
-use Rattle.book.proofs.Heads.{program-of}
+use Rattle.book.proofs.Rows.{rows-length}
+use Rattle.fixpoint.proofs.Tables.{book-program}
 use Rattle.fixpoint.proofs.gamma_s.Statement.{statement}
 use Rattle.fixpoint.proofs.gamma_s.Tie as tie
 
 rule-count-requires : tie.Need-rule-count-requires
 rule-count-requires c κs = search needs
 
+all-numbers-requires : tie.Need-all-numbers-requires
+all-numbers-requires c κs = search needs
+
+array-share-prefix-numbers : tie.Need-array-share-prefix-numbers
+array-share-prefix-numbers c = search needs
+
+slice-aggregate-gamma-seminormal : tie.Need-slice-aggregate-gamma-seminormal
+slice-aggregate-gamma-seminormal c =
+    let numbers = c .before .before .before .before .before .before .before .before in
+    sym (ap length (numbers .all-numbers .ensures) ∙ rows-length (λ k. k) 0 _)
+
 gamma-seminormal-requires : tie.Need-gamma-seminormal-requires
 gamma-seminormal-requires c κs = search needs
 
 returns : tie.Need-returns
 returns c =
-    let counted = c .before .before .before .before .before .before .before .before in
-    let args = counted .before .args in
-    rw (program-of (args .t1) (setOf (args .facts .words))) (rw (counted .rule-count .ensures) at (c .gamma-seminormal .ensures))
+    let numbers = c .before .before .before .before .before .before .before .before .before in
+    let args = numbers .before .before .args in
+    c .gamma-seminormal .ensures ∙ ap (λ (P : Program). Γs P (setOf (args .s .words))) (book-program (args .t1) (setOf (args .facts .words)) (numbers .before .rule-count .ensures) (numbers .all-numbers .ensures))
 
 pub gamma-s-spec : {M : Type 1} → statement M
-gamma-s-spec = tie.close (tie.spec rule-count-requires gamma-seminormal-requires returns)
+gamma-s-spec =
+    tie.close
+    (tie.spec
+    rule-count-requires
+    all-numbers-requires
+    array-share-prefix-numbers
+    slice-aggregate-gamma-seminormal
+    gamma-seminormal-requires
+    returns)

@@ -23,7 +23,7 @@ facts-size c = search needs
 returns : tie.Need-returns
 returns c =
     let opened = c .before in
-    let start = opened .before .before .before .before .before in
+    let start = opened .before .before .before .before .before .before in
     let facts = start .args .facts .words in
     let fewer : length (opened .difference .result .words) ≡ nWords = search needs in
     c .least-closed .ensures

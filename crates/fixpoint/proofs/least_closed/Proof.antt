@@ -7,17 +7,17 @@ use lib.ListN.{length}
 use Rattle.litset.specs.Words.{nWords, setOf}
 use Rattle.litset.proofs.Words.{member-room}
 use Rattle.litset.proofs.Room.{free}
-use Rattle.book.specs.Book.{rulesIn}
+use Rattle.book.specs.Book.{rulesNumbered}
 use Rattle.fixpoint.proofs.Growth.{Growing, growing-start, growing-more, growing-falls, growing-still, growing-end}
 use Rattle.fixpoint.proofs.least_closed.Statement.{statement}
 use Rattle.fixpoint.proofs.least_closed.Tie as tie
 
 abbrev Inv-loop : tie.InvT-loop
-Inv-loop heads starts entries count shut s x₀ x =
-    Growing (rulesIn heads starts entries count) (setOf (shut .words)) (setOf (s .words)) (setOf (x₀ .words)) (setOf (x .words))
+Inv-loop heads starts entries numbers shut s x₀ x =
+    Growing (rulesNumbered heads starts entries numbers) (setOf (shut .words)) (setOf (s .words)) (setOf (x₀ .words)) (setOf (x .words))
 
 abbrev μ-loop : tie.MeasureT-loop
-μ-loop heads starts entries count shut s x₀ x = free (setOf (x .words))
+μ-loop heads starts entries numbers shut s x₀ x = free (setOf (x .words))
 
 loop-holds : tie.Need-loop-holds Inv-loop μ-loop
 loop-holds c = growing-start _ _ _ _
@@ -31,7 +31,7 @@ equal-requires c κs = search needs
 returns : tie.Need-returns Inv-loop μ-loop
 returns c =
     let turn = c .before .before .before in
-    let start = turn .before .before .before .before .args .start .words in
+    let start = turn .before .before .before .before .before .args .start .words in
     let size : length start ≡ nWords = search needs in
     let same = c .before .equal .ensures .0 (c .if1 .taken) in
     let closed = growing-still _ _ _ _ (c .before .before .add-heads .ensures) same in
