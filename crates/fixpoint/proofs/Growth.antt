@@ -13,6 +13,7 @@ use borrow.Author.Tests.{not-true}
 use Rattle.wfsx.specs.Sets.{Set, _∈_, _⊆_, ∅, _∪_, _∖_, iterate}
 use Rattle.wfsx.specs.Program.{complements, Rule, Program, withoutHeads}
 use Rattle.wfsx.specs.Model.{holds, supported, Γ, Γs}
+use Rattle.wfsx.specs.Groups.{roundOf}
 use Rattle.truth.proofs.Truth.{not-intro, and-l, and-r, and-intro, or-elim, or-l, or-r}
 use Rattle.wfsx.proofs.Sets.{⊆-antisym}
 use Rattle.wfsx.proofs.Parts.{supported-without, Γ-with, Γ-same, Γs-without}
@@ -23,7 +24,6 @@ use Rattle.litset.specs.Words.{capacity}
 use Rattle.litset.proofs.Room.{free, free-most, free-falls}
 use Rattle.book.specs.Book.{program}
 use Rattle.fixpoint.specs.Pass.{pass}
-use Rattle.fixpoint.specs.Result.{roundOf}
 use Rattle.fixpoint.proofs.Pass.{Full, pass-grows, pass-inside, pass-still}
 
 -- ---- passes over some rules, where the heads in B are shut and S decides the `not` entries

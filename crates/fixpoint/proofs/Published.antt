@@ -10,7 +10,7 @@ use Rattle.wfsx.specs.Program.{Program}
 use Rattle.wfsx.specs.Model.{M, N, Heads⊆, Contradictory, verdict}
 use Rattle.wfsx.specs.Rounds.{rounds}
 use Rattle.wfsx.proofs.Contradiction.{heads-in, contradiction}
-use Rattle.wfsx.proofs.Operators.{M-head, Γ-head, Γs⊆Γ, N-is, verdict-is}
+use Rattle.wfsx.proofs.Operators.{M-head, N-head, verdict-is}
 use Rattle.litset.specs.Words.{capacity, room, setOf, LowestBoth, ClashOf, clashIn}
 use Rattle.litset.specs.declared.Clash.{Clash}
 use Rattle.litset.specs.declared.Clash.the-variants.{None, Name}
@@ -31,7 +31,7 @@ module _ (P : Program) (small : Heads⊆ P room) where
   M-small A h = ltb-true A capacity (heads-in P room small A (M-head P A h))
 
   N-small : (A : ℕ) → A ∈ N P → A < capacity
-  N-small A h = ltb-true A capacity (heads-in P room small A (Γ-head P (M P) A (Γs⊆Γ P (M P) A (rw (N-is P) at h))))
+  N-small A h = ltb-true A capacity (heads-in P room small A (N-head P A h))
 
   -- its model has room in memory
   pub model-exists : (m : Model) × ModelOf P m

@@ -1,7 +1,7 @@
 -- Where the rounds stand still. From nothing, with the same facts for Γ and Γs, that is M. From what counts as facts in Γ it is the least fixpoint of a step too: every
 -- round has those facts, so the rounds begin and stay inside every fixpoint. The step's program holds its facts twice over, which supports the same.
 use mathlib.Core.Path.{_≡_, sym, _∙_, ap}
-use mathlib.Core.Logic.{_⊎_, inl, inr, ⊎-elim}
+use mathlib.Core.Logic.{_⊎_, ⊎-elim}
 use mathlib.Core.Bool.{Bool, false≢true, _||_, or-assoc}
 use mathlib.Core.List.{List}
 use Prim.Native.Nat.{ℕ, _<_}
@@ -11,7 +11,7 @@ use Rattle.wfsx.specs.Sets.{Set, _∈_, _⊆_, ∅, _∪_}
 use Rattle.wfsx.specs.Program.{Entry, Rule, Program}
 use Rattle.wfsx.specs.Model.{holds, supported, Γ, Γs, I, M}
 use Rattle.wfsx.specs.Rounds.{rounds}
-use Rattle.wfsx.specs.Groups.{given, leastOf, step}
+use Rattle.wfsx.specs.Groups.{roundOf, given, leastOf, step}
 use Rattle.wfsx.proofs.Sets.{⊆-antisym}
 use Rattle.wfsx.proofs.Chain.{chain-within}
 use Rattle.wfsx.proofs.Parts.{Γ-same, Γs-same}
@@ -21,7 +21,7 @@ use Rattle.wfsx.proofs.Rounds.{rounds-only, M-from-rounds}
 use Rattle.wfsx.proofs.Steps.{round-monotone, least-fixed, least-inside, least-same}
 use Rattle.litset.specs.Words.{capacity, setOf}
 use Rattle.book.specs.Book.{program}
-use Rattle.fixpoint.specs.Result.{roundOf, SettledFrom, ModelOf, StepOf, valuesOf}
+use Rattle.fixpoint.specs.Result.{SettledFrom, ModelOf, StepOf, valuesOf}
 use Rattle.fixpoint.specs.declared.Model.{Model}
 use Rattle.fixpoint.specs.declared.Values.{Values}
 

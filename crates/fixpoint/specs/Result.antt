@@ -4,20 +4,16 @@ use mathlib.Core.Bool.{cond}
 use Prim.Native.Nat.{ℕ, suc, _≤_}
 use Rattle.wfsx.specs.Sets.{Set, iterate}
 use Rattle.wfsx.specs.Program.{Program}
-use Rattle.wfsx.specs.Model.{Γ, Γs, M, N, is-true, is-false, is-undefined}
+use Rattle.wfsx.specs.Model.{Γs, M, N, is-true, is-false, is-undefined}
 use Rattle.wfsx.specs.Model as wfsx
 use Rattle.wfsx.specs.Rounds.{rounds}
-use Rattle.wfsx.specs.Groups.{step}
+use Rattle.wfsx.specs.Groups.{roundOf, step}
 use Rattle.wfsx.specs.Groups as groups
 use Rattle.litset.specs.Words.{capacity, setOf}
 use Rattle.fixpoint.specs.declared.Verdict.{Verdict}
 use Rattle.fixpoint.specs.declared.Verdict.the-variants.{True, False, Undefined}
 use Rattle.fixpoint.specs.declared.Model.{Model}
 use Rattle.fixpoint.specs.declared.Values.{Values}
-
--- one round, with Γ over P and Γs over Q
-abbrev pub roundOf : Program → Program → Set → Set
-roundOf P Q S = Γ P (Γs Q S)
 
 -- where rounds from S come to a stop: the first set that stays the same, Γs of it, and how many rounds lead to it
 pub record SettledFrom (P Q : Program) (S : Set) (m : Model) : Type 0 where

@@ -6,11 +6,12 @@ ghost use lib.ListN.{take};
 ghost use Rattle.wfsx.specs.Sets.{_⊆_};
 ghost use Rattle.wfsx.specs.Program.{withoutHeads};
 ghost use Rattle.wfsx.specs.Model.{holds, Γ, Γs};
+ghost use Rattle.wfsx.specs.Groups.{roundOf};
 ghost use Rattle.litset.specs.Words.{setOf};
 ghost use Rattle.book.specs.Limits.{maxRules};
 ghost use Rattle.book.specs.Book.{rows, entryIs, rulesNumbered, program, programOf};
 ghost use Rattle.fixpoint.specs.Pass.{pass};
-ghost use Rattle.fixpoint.specs.Result.{roundOf, SettledFrom, ModelOf, StepOf, verdictIs, verdictIn};
+ghost use Rattle.fixpoint.specs.Result.{SettledFrom, ModelOf, StepOf, verdictIs, verdictIn};
 use book::Book;
 use book::Entry;
 use litset::LitSet;
@@ -57,8 +58,8 @@ fn wide(n: u16) -> usize
     n as usize
 }
 
-// One pass over the rules with these numbers whose heads are not shut. A rule is passed over from its first body literal that doesn't hold; a later rule sees what an
-// earlier one added.
+// One pass over the rules with these numbers whose heads are not shut. A rule is passed over from its first body literal that doesn't hold; a later rule sees
+// what an earlier one added.
 fn add_heads<'a>(
     heads: &'a [u16],
     starts: &'a [u16],

@@ -3,7 +3,7 @@
 use mathlib.Core.Path.{_≡_, sym, _∙_, refl}
 use mathlib.Core.Logic.{_⊎_, inl, inr}
 use mathlib.Core.Bool.{true, false, _||_}
-use mathlib.Core.List.{List, [], _∷_, Memᴰ·of-map}
+use mathlib.Core.List.{List, Memᴰ·of-map}
 use Prim.Native.Nat.{ℕ, _≤_, _<_}
 use native.Mathlib.Decide.{decLt}
 use native.Mathlib.Omega.{arith}
@@ -14,12 +14,12 @@ use Rattle.wfsx.specs.Sets.{Set, _∈_, _∉_, _⊆_, ∅, _∪_, _isIn_
 use Rattle.wfsx.specs.Program.{Rule, Program}
 use Rattle.wfsx.specs.Model.{M, N, Heads⊆}
 use Rattle.wfsx.specs.Reach.{nameOf, nameFor, nameIn, Reaches, reach, group, rulesFor}
-use Rattle.wfsx.specs.Groups.{MayCome, InOrder, all-listed, comes-next, leaders, Values, noValues, step, settleAll, byGroups}
+use Rattle.wfsx.specs.Groups.{MayCome, InOrder, all-listed, comes-next, Values, noValues, step, settleAll, byGroups}
 use Rattle.wfsx.proofs.Supported.{heads}
 use Rattle.wfsx.proofs.Operators.{M-head, N-head}
 use Rattle.wfsx.proofs.Contradiction.{heads-in}
 use Rattle.wfsx.proofs.Reach.{reach-body, reach-is, group-at, group-is}
-use Rattle.wfsx.proofs.Relevance.{On, Downward, for-intro, for-elim}
+use Rattle.wfsx.proofs.Relevance.{Downward, for-intro, for-elim}
 use Rattle.wfsx.proofs.Steps.{Done, Group, step-done, done-all}
 use Rattle.wfsx.proofs.Order.{in-order}
 

@@ -1,18 +1,17 @@
--- `reach` is the relation `Reaches`: sound by induction over the rounds, complete since the last round adds nothing. It is reflexive and transitive.
-use mathlib.Core.Path.{_≡_, refl, sym, _∙_, ap}
-use mathlib.Core.Logic.{_⊎_, inl, inr, _↔_, ⊎-elim}
-use mathlib.Core.Bool.{Bool, true, false, cond, _&&_, _||_}
+-- `reach` is the relation `Reaches`: sound by induction over the steps, complete since the last step adds nothing. It is reflexive and transitive.
+use mathlib.Core.Path.{_≡_, refl, sym, ap}
+use mathlib.Core.Logic.{_⊎_, inl, inr, _↔_}
+use mathlib.Core.Bool.{true, _&&_}
 use mathlib.Core.List.{List, [], _∷_, _++_, map, List·Memᴰ·head, List·Memᴰ·tail, List·Memᴰ·not-nil, List·Memᴰ·append-cases, Memᴰ·cast, Memᴰ·append-left, Memᴰ·append-right, Memᴰ·map, Memᴰ·of-map}
-use Prim.Native.Nat.{ℕ, zero, suc, _+_, _≤_}
-use native.Mathlib.Nat.{le-of-eq}
+use Prim.Native.Nat.{ℕ, suc, _+_}
 use native.Mathlib.Omega.{arith}
 use lib.ListN.{length, length-map, length-append}
 use lib.Dec.{eqb}
 use borrow.Author.Tests.{eqb-true, eq-eqb}
-use Rattle.wfsx.specs.Sets.{Set, _∈_, _∉_, _⊆_, ∅, add, _isIn_, iterate}
+use Rattle.wfsx.specs.Sets.{Set, _∈_, _⊆_, ∅, add, _isIn_, iterate}
 use Rattle.wfsx.specs.Program.{Entry, Rule, Program, fact, withFacts}
-use Rattle.wfsx.specs.Reach.{nameIn, nameFor, Reaches, itself, further, mentioned, bodyNames, entryCount, reach, group, rulesFor}
-use Rattle.truth.proofs.Truth.{clash, same-test, and-l, and-r, and-intro, and-map, or-elim, or-l, or-r, or-map}
+use Rattle.wfsx.specs.Reach.{nameIn, nameFor, Reaches, itself, further, mentioned, bodyNames, entryCount, reach, group}
+use Rattle.truth.proofs.Truth.{clash, and-l, and-r, and-intro, or-elim, or-l, or-r, or-map}
 use Rattle.wfsx.proofs.Sets.{⊆-antisym, add-has}
 use Rattle.wfsx.proofs.Chain.{chain-ind, chain-stops}
 
@@ -84,19 +83,20 @@ entries-in (q ∷ P) r e (List·Memᴰ·tail i) m = Memᴰ·append-right (map na
 
 module _ (P : Program) where
   module _ (n : ℕ) where
-    abbrev round : Set → Set
-    round D = add n (bodyNames P D)
+    -- one step
+    abbrev widened : Set → Set
+    widened D = add n (bodyNames P D)
 
-    reach-fixed : reach P n ≡ round (reach P n)
+    reach-fixed : reach P n ≡ widened (reach P n)
     unfolding reach
-    reach-fixed = chain-stops round (λ S U f k h. or-map (eqb k n) (bodyNames P S k) (λ e. e) (body-mono P S U f k) h) (n ∷ mentions P) given (suc (entryCount P)) (omega (arith, entries-length P))
+    reach-fixed = chain-stops widened (λ S U f k h. or-map (eqb k n) (bodyNames P S k) (λ e. e) (body-mono P S U f k) h) (n ∷ mentions P) given (suc (entryCount P)) (omega (arith, entries-length P))
       where
-        given : (i k : ℕ) → k ∈ round (iterate round ∅ i) → k isIn n ∷ mentions P
-        given i k h = go (or-elim (eqb k n) (bodyNames P (iterate round ∅ i) k) h)
+        given : (i k : ℕ) → k ∈ widened (iterate widened ∅ i) → k isIn n ∷ mentions P
+        given i k h = go (or-elim (eqb k n) (bodyNames P (iterate widened ∅ i) k) h)
           where
-            go : (eqb k n ≡ true) ⊎ (k ∈ bodyNames P (iterate round ∅ i)) → k isIn n ∷ mentions P
+            go : (eqb k n ≡ true) ⊎ (k ∈ bodyNames P (iterate widened ∅ i)) → k isIn n ∷ mentions P
             go (inl e) = List·Memᴰ·head (eqb-true k n e)
-            go (inr b) = let w = body-elim P (iterate round ∅ i) k b in List·Memᴰ·tail (Memᴰ·cast (sym (w .5)) (entries-in P (w .0) (w .1) (w .2) (w .4)))
+            go (inr b) = let w = body-elim P (iterate widened ∅ i) k b in List·Memᴰ·tail (Memᴰ·cast (sym (w .5)) (entries-in P (w .0) (w .1) (w .2) (w .4)))
 
     pub reach-itself : n ∈ reach P n
     reach-itself = rw reach-fixed (add-has n (bodyNames P (reach P n)))
@@ -108,9 +108,9 @@ module _ (P : Program) where
     -- whatever is so of n, and of the names in the bodies for names of which it is so, is so of every reached name
     pub reach-ind : (Q : ℕ → Type 0) → Q n → ((r : Rule) (e : Entry) → r isIn P → Q (nameFor r) → e isIn r .body → Q (nameIn e)) → (k : ℕ) → k ∈ reach P n → Q k
     unfolding reach
-    reach-ind Q here next = chain-ind round Q step (suc (entryCount P))
+    reach-ind Q here next = chain-ind widened Q step (suc (entryCount P))
       where
-        step : (D : Set) → ((k : ℕ) → k ∈ D → Q k) → (k : ℕ) → k ∈ round D → Q k
+        step : (D : Set) → ((k : ℕ) → k ∈ D → Q k) → (k : ℕ) → k ∈ widened D → Q k
         step D d k h = go (or-elim (eqb k n) (bodyNames P D k) h)
           where
             go : (eqb k n ≡ true) ⊎ (k ∈ bodyNames P D) → Q k

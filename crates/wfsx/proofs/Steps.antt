@@ -1,51 +1,43 @@
 -- The model group by group. Where M and N are known on U, and the rules for W outside of U speak of W alone, the step with these rules gives M and N on W: between the
 -- rounds of the step and the I(k) of the whole program `carry` goes to and fro.
-use mathlib.Core.Path.{_≡_, refl, sym, _∙_, ap, subst}
+use mathlib.Core.Path.{_≡_, refl, sym, subst}
 use mathlib.Core.Logic.{_⊎_, inl, inr}
-use mathlib.Core.Bool.{Bool, true, false, not}
-use mathlib.Core.List.{List, [], _∷_, _++_, map, List·Memᴰ·append-cases, Memᴰ·append-left, Memᴰ·append-right, Memᴰ·map, Memᴰ·of-map}
+use mathlib.Core.Bool.{not}
+use mathlib.Core.List.{map, List·Memᴰ·append-cases, Memᴰ·append-left, Memᴰ·append-right, Memᴰ·map, Memᴰ·of-map}
 use Prim.Native.Nat.{ℕ, zero, suc, _<_}
-use native.Mathlib.Omega.{arith}
 use lib.ListN.{length}
 use lib.Dec.{ltb}
-use borrow.Author.Tests.{ltb-true, lt-ltb}
+use borrow.Author.Tests.{ltb-true}
 use Rattle.wfsx.specs.Sets.{Set, _∈_, _∉_, _⊆_, ∅, _isIn_, iterate, members}
-use Rattle.wfsx.specs.Program.{compl, Rule, Program, fact, seminormal}
+use Rattle.wfsx.specs.Program.{compl, Rule, Program, fact}
 use Rattle.wfsx.specs.Model.{holds, every, supported, Γ, Γs, I, M, N, Heads⊆}
 use Rattle.wfsx.specs.Reach.{nameOf, nameFor}
-use Rattle.wfsx.specs.Groups.{Values, given, leastOf, step}
+use Rattle.wfsx.specs.Groups.{Values, given, roundOf, leastOf, step}
 use Rattle.truth.proofs.Truth.{clash, decided, contra}
 use Rattle.wfsx.proofs.Sets.{⊆-antisym}
 use Rattle.wfsx.proofs.Members.{members-are}
-use Rattle.wfsx.proofs.Chain.{chain-grows, chain-inside, chain-stops}
+use Rattle.wfsx.proofs.Chain.{chain-inside, chain-stops}
 use Rattle.wfsx.proofs.Supported.{heads, heads-most, every-none, supported-intro, supported-elim}
-use Rattle.wfsx.proofs.Operators.{Γ-fixed, Γ-antitone, Γ-head, Γs-is, Γs-fixed, Γs-antitone, Γs-blocks, Γs-has, Γs⊆Γ, I-next, I⊆M, N-is, M-from-N, M-head, N-head}
+use Rattle.wfsx.proofs.Operators.{Γ-fixed, Γ-antitone, Γ-head, Γs-antitone, Γs-blocks, Γs-has, Γs⊆Γ, I⊆M, N-is, M-from-N, M-head, N-head}
 use Rattle.wfsx.proofs.Contradiction.{heads-in}
 use Rattle.wfsx.proofs.Relevance.{On, Speaks, carry, carry-s, Downward}
 
 -- ---- the least fixpoint with Γ over P and Γs over Q
 
 module _ (P Q : Program) where
-  -- one round
-  abbrev pub round-of : Set → Set
-  round-of S = Γ P (Γs Q S)
-
-  pub round-monotone : (S U : Set) → S ⊆ U → round-of S ⊆ round-of U
+  pub round-monotone : (S U : Set) → S ⊆ U → roundOf P Q S ⊆ roundOf P Q U
   round-monotone S U f = Γ-antitone P (Γs-antitone Q f)
 
   pub least-fixed : leastOf P Q ≡ Γ P (Γs Q (leastOf P Q))
   unfolding leastOf
-  least-fixed = chain-stops round-of round-monotone (heads P) (λ n. Γ-head P (Γs Q (iterate round-of ∅ n))) (length P) (heads-most P)
+  least-fixed = chain-stops (roundOf P Q) round-monotone (heads P) (λ n. Γ-head P (Γs Q (iterate (roundOf P Q) ∅ n))) (length P) (heads-most P)
 
   pub least-inside : (U : Set) → Γ P (Γs Q U) ⊆ U → leastOf P Q ⊆ U
   unfolding leastOf
-  least-inside U c = chain-inside round-of round-monotone U c (length P)
+  least-inside U c = chain-inside (roundOf P Q) round-monotone U c (length P)
 
-  pub rounds-grow : (k : ℕ) → iterate round-of ∅ k ⊆ iterate round-of ∅ (suc k)
-  rounds-grow = chain-grows round-of round-monotone
-
-  pub rounds-inside : (k : ℕ) → iterate round-of ∅ k ⊆ leastOf P Q
-  rounds-inside = chain-inside round-of round-monotone (leastOf P Q) (λ A a. rw least-fixed a)
+  pub rounds-inside : (k : ℕ) → iterate (roundOf P Q) ∅ k ⊆ leastOf P Q
+  rounds-inside = chain-inside (roundOf P Q) round-monotone (leastOf P Q) (λ A a. rw least-fixed a)
 
 -- the least fixpoint comes from what the two operators give, whatever the programs
 pub least-same : (P P′ Q Q′ : Program) → ((S : Set) → Γ P S ≡ Γ P′ S) → ((S : Set) → Γs Q S ≡ Γs Q′ S) → leastOf P Q ≡ leastOf P′ Q′
@@ -156,7 +148,7 @@ module _ (b : ℕ) (P : Program) (small : Heads⊆ P (λ A. ltb A b)) (U W : Set
   mine = leastOf (given b m G) (given b n G)
 
   abbrev J : ℕ → Set
-  J k = iterate (round-of (given b m G) (given b n G)) ∅ k
+  J k = iterate (roundOf (given b m G) (given b n G)) ∅ k
 
   J-low : (k : ℕ) → On W (I P k) (J k)
   unfolding I

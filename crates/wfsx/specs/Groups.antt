@@ -73,9 +73,13 @@ noValues = record { truths = ∅; nonfalse = ∅ }
 abbrev pub given : ℕ → Set → Program → Program
 given b S G = withFacts G (members b S)
 
--- the least fixpoint of ΓΓs with Γ over P and Γs over Q, worked out as M is
+-- one round, with Γ over P and Γs over Q
+abbrev pub roundOf : Program → Program → Set → Set
+roundOf P Q S = Γ P (Γs Q S)
+
+-- the least set that a round keeps, worked out as M is
 unfoldable pub leastOf : Program → Program → Set
-leastOf P Q = iterate (λ S. Γ P (Γs Q S)) ∅ (length P)
+leastOf P Q = iterate (roundOf P Q) ∅ (length P)
 
 -- The step: from the group's rules G, facts too, and M and N of the groups before, to M and N with the group. M of the groups before counts as facts in Γ, and N
 -- of the groups before as facts in Γs. All literals are below b.
