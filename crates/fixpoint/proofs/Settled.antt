@@ -1,7 +1,7 @@
 -- Where the rounds stand still. From nothing, with the same facts for Γ and Γs, that is M. From what counts as facts in Γ it is the least fixpoint of a step too: every
 -- round has those facts, so the rounds begin and stay inside every fixpoint. The step's program holds its facts twice over, which supports the same.
 use mathlib.Core.Path.{_≡_, sym, _∙_, ap}
-use mathlib.Core.Logic.{_⊎_, ⊎-elim}
+use mathlib.Core.Logic.{⊎-elim}
 use mathlib.Core.Bool.{Bool, false≢true, _||_, or-assoc}
 use mathlib.Core.List.{List}
 use Prim.Native.Nat.{ℕ, _<_}

@@ -217,11 +217,12 @@ pub fn gamma(book: Book, facts: LitSet, s: LitSet) -> LitSet
 {
     let count = book::rule_count(book);
     let numbers = all_numbers(count);
+    let first = &numbers[..count];
     let r = gamma_above(
         &book.heads,
         &book.starts,
         &book.entries,
-        &numbers[..count],
+        first,
         facts,
         s,
         litset::empty(),
@@ -235,14 +236,8 @@ pub fn gamma_s(book: Book, facts: LitSet, s: LitSet) -> LitSet
 {
     let count = book::rule_count(book);
     let numbers = all_numbers(count);
-    let r = gamma_seminormal(
-        &book.heads,
-        &book.starts,
-        &book.entries,
-        &numbers[..count],
-        facts,
-        s,
-    );
+    let first = &numbers[..count];
+    let r = gamma_seminormal(&book.heads, &book.starts, &book.entries, first, facts, s);
     r
 }
 
@@ -252,11 +247,12 @@ pub fn model_of(book: Book, facts: LitSet) -> Model
 {
     let count = book::rule_count(book);
     let numbers = all_numbers(count);
+    let first = &numbers[..count];
     let m = settle(
         &book.heads,
         &book.starts,
         &book.entries,
-        &numbers[..count],
+        first,
         litset::empty(),
         facts,
         facts,

@@ -20,10 +20,8 @@ all-numbers-requires c κs = search needs
 array-share-prefix-numbers : tie.Need-array-share-prefix-numbers
 array-share-prefix-numbers c = search needs
 
-slice-aggregate-gamma-above : tie.Need-slice-aggregate-gamma-above
-slice-aggregate-gamma-above c =
-    let numbers = c .before .before .before .before .before .before .before .before in
-    sym (ap length (numbers .all-numbers .ensures) ∙ rows-length (λ k. k) 0 _)
+slice-aggregate-first : tie.Need-slice-aggregate-first
+slice-aggregate-first c = sym (ap length (c .before .all-numbers .ensures) ∙ rows-length (λ k. k) 0 _)
 
 empty-requires : tie.Need-empty-requires
 empty-requires c κs = search needs
@@ -44,7 +42,7 @@ gamma-spec =
     rule-count-requires
     all-numbers-requires
     array-share-prefix-numbers
-    slice-aggregate-gamma-above
+    slice-aggregate-first
     empty-requires
     gamma-above-requires
     returns)

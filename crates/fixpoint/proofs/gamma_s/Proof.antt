@@ -19,10 +19,8 @@ all-numbers-requires c κs = search needs
 array-share-prefix-numbers : tie.Need-array-share-prefix-numbers
 array-share-prefix-numbers c = search needs
 
-slice-aggregate-gamma-seminormal : tie.Need-slice-aggregate-gamma-seminormal
-slice-aggregate-gamma-seminormal c =
-    let numbers = c .before .before .before .before .before .before .before .before in
-    sym (ap length (numbers .all-numbers .ensures) ∙ rows-length (λ k. k) 0 _)
+slice-aggregate-first : tie.Need-slice-aggregate-first
+slice-aggregate-first c = sym (ap length (c .before .all-numbers .ensures) ∙ rows-length (λ k. k) 0 _)
 
 gamma-seminormal-requires : tie.Need-gamma-seminormal-requires
 gamma-seminormal-requires c κs = search needs
@@ -40,6 +38,6 @@ gamma-s-spec =
     rule-count-requires
     all-numbers-requires
     array-share-prefix-numbers
-    slice-aggregate-gamma-seminormal
+    slice-aggregate-first
     gamma-seminormal-requires
     returns)

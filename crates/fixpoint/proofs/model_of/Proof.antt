@@ -20,10 +20,8 @@ all-numbers-requires c κs = search needs
 array-share-prefix-numbers : tie.Need-array-share-prefix-numbers
 array-share-prefix-numbers c = search needs
 
-slice-aggregate-settle : tie.Need-slice-aggregate-settle
-slice-aggregate-settle c =
-    let numbers = c .before .before .before .before .before .before .before .before in
-    sym (ap length (numbers .all-numbers .ensures) ∙ rows-length (λ k. k) 0 _)
+slice-aggregate-first : tie.Need-slice-aggregate-first
+slice-aggregate-first c = sym (ap length (c .before .all-numbers .ensures) ∙ rows-length (λ k. k) 0 _)
 
 empty-requires : tie.Need-empty-requires
 empty-requires c κs = search needs
@@ -45,7 +43,7 @@ model-of-spec =
     rule-count-requires
     all-numbers-requires
     array-share-prefix-numbers
-    slice-aggregate-settle
+    slice-aggregate-first
     empty-requires
     settle-requires
     returns)
