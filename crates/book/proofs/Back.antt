@@ -42,7 +42,7 @@ name-block (n ∷ names) z short (suc k) h =
     ap (take (length (getD names k []))) (ap₂ drop place (append-assoc (padded maxLength n) others z) ∙ drop-append-add (padded maxLength n) (others ++ z) (maxLength * k))
     ∙ name-block names z (λ m i. short m (List·Memᴰ·tail i)) k (omega arith)
 
-getD-in : {X : Type 0} (xs : List X) (k : ℕ) (d : X) → k < length xs → getD xs k d isIn xs
+pub getD-in : {X : Type 0} (xs : List X) (k : ℕ) (d : X) → k < length xs → getD xs k d isIn xs
 getD-in [] k d h = absurd (omega arith)
 getD-in (x ∷ xs) zero d h = List·Memᴰ·head refl
 getD-in (x ∷ xs) (suc k) d h = List·Memᴰ·tail (getD-in xs k d (omega arith))

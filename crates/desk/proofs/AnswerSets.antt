@@ -60,6 +60,6 @@ module _ (cs : List Call) (S : Set) (a : AnswerSet (programIn (left cs)) S) wher
     between-due some r h =
         let due = model-due cs start k f run some r h in
         record {
-          consistent = due .consistent .1 never-contradictory;
+          consistent = due .consistency .consistent .1 never-contradictory;
           between = λ U u. (rw (due .model-is .truths) (M⊆answer-set P U u), rw (due .model-is .nonfalse) (answer-set⊆N P U u));
         }

@@ -3,29 +3,35 @@
 use mathlib.Core.Path.{_≡_, refl, sym, _∙_, ap}
 use mathlib.Core.Bool.{Bool, true, false, true≢false}
 use mathlib.Core.List.{List}
-use mathlib.Core.Logic.{_↔_}
 use Prim.Native.Nat.{ℕ, _≤_}
 use lib.ListN.{length}
-use Rattle.wfsx.specs.Sets.{Set, ∅}
-use Rattle.wfsx.specs.Model.{M}
-use Rattle.litset.specs.Words.{clashIn}
+use Rattle.wfsx.specs.Sets.{Set, ∅, members}
+use Rattle.wfsx.specs.Model.{M, N}
+use Rattle.wfsx.specs.Groups.{leaders}
+use Rattle.wfsx.proofs.Order.{in-order, order-facts, order-is}
+use Rattle.litset.specs.Words.{capacity, clashIn}
 use Rattle.litset.specs.declared.Clash.{Clash}
 use Rattle.litset.specs.declared.Clash.the-variants as clash
 use Rattle.fixpoint.proofs.Published.{no-clash, clash-name}
-use Rattle.lesson.specs.State.{BookState, unloaded, loaded-with, State, noneLoaded, inBook, programIn, ContradictoryOver, listingIn, Said, gives, isClash, bufferAfter}
-use Rattle.lesson.specs.Calls.{shelfOf, truthsOf, nonfalseOf, GivesModel, listingSaid, Lists, bytesOf}
+use Rattle.reach.specs.Order.{orderTable}
+use Rattle.lesson.specs.State.{BookState, unloaded, loaded-with, State, itsRules, noneLoaded, inForce, inBook, programIn, listingIn, Said, gives, acknowledged, isClash, modelSays, orderIn, bufferAfter}
+use Rattle.lesson.specs.Calls.{shelfOf, truthsOf, nonfalseOf, GivesModel, GivesOrder, GivesGroups, listingSaid, Lists, bytesOf}
 use Rattle.lesson.specs.Conditions.{NoBook}
 use Rattle.lesson.specs.declared.ModelReply.{ModelReply}
+use Rattle.lesson.specs.declared.OrderReply.{OrderReply}
+use Rattle.lesson.specs.declared.GroupsReply.{GroupsReply}
 use Rattle.lesson.specs.declared.ListingAnswer.{ListingAnswer}
-use Rattle.lesson.proofs.Order.{given-same}
+use Rattle.lesson.proofs.Order.{given-same, loaded-says}
 use Rattle.lesson.proofs.WithBook.{model-loaded, part-loaded, listing-fits, listing-short}
 use Rattle.lesson.proofs.Sound.{Sound, heads-in-book, heads-in-room, rounds-in-room}
 use Rattle.lesson.proofs.Replies.{bytes-most}
 use Rattle.lesson.proofs.Standing.{bytes-stand}
-use Rattle.desk.specs.Calls.{Fresh}
-use Rattle.desk.specs.Runs.{Call, left, Run, ModelDue, ListingDue}
+use Rattle.desk.specs.Calls.{stateOf, Fresh}
+use Rattle.desk.specs.Runs.{Call, left, Run, ConsistencyDue, ModelDue, ListingDue}
+use Rattle.desk.specs.Groups.{nameCount, OrderDue, GroupsDue}
 use Rattle.desk.specs.declared.Desk.{Desk}
 use Rattle.desk.proofs.Left.{left-means, left-good, standing-left}
+use Rattle.desk.proofs.Exists.{left-sound}
 
 loaded : (d : State) → (NoBook d → ⊥) → noneLoaded (d .book) ≡ false
 loaded d some = go (d .book) some
@@ -37,34 +43,61 @@ loaded d some = go (d .book) some
 -- ---- the model call
 
 module _ (d : State) (s : Sound d) where
-  clash-due : (c : Clash) → clashIn (M (programIn d)) ≡ c
-      → ((_≡_ {A = Said Bool} (gives (isClash c)) (gives true)) ↔ ContradictoryOver (inBook (d .book)) d)
-      × ((_≡_ {A = Said Bool} (gives (isClash c)) (gives false)) ↔ (ContradictoryOver (inBook (d .book)) d → ⊥))
+  clash-due : (c : Clash) → clashIn (M (programIn d)) ≡ c → ConsistencyDue d (gives (isClash c))
   clash-due clash.None e =
       let never = no-clash (programIn d) (heads-in-room d s) (inBook (d .book)) (heads-in-book d s) .0 e in
-      ((λ q. absurd (true≢false (sym (given-same false true q))), λ c. absurd (never c)), (λ q. never, λ q. refl))
+      record { contradictory = (λ q. absurd (true≢false (sym (given-same false true q))), λ c. absurd (never c)); consistent = (λ q. never, λ q. refl) }
   clash-due (clash.Name n) e =
       let c = clash-name (programIn d) (heads-in-room d s) (inBook (d .book)) (heads-in-book d s) n .0 e .0 in
-      ((λ q. c, λ q. refl), (λ q. absurd (true≢false (given-same true false q)), λ never. absurd (never c)))
+      record { contradictory = (λ q. c, λ q. refl); consistent = (λ q. absurd (true≢false (given-same true false q)), λ never. absurd (never c)) }
 
 module _ (cs : List Call) (start k : Desk) (f : Fresh start) (run : Run start cs k) (some : NoBook (left cs) → ⊥) where
   there : noneLoaded (shelfOf (k .shelf)) ≡ false
   there = ap (λ (d : State). noneLoaded (d .book)) (left-means cs start k f run) ∙ loaded (left cs) some
 
+  -- a call that says of M whether it has a clash says whether the lesson is contradictory
+  consistency-due : (T : Set) → T ≡ M (programIn (left cs)) → (said : Said Bool) → said ≡ modelSays (shelfOf (k .shelf)) T → ConsistencyDue (left cs) said
+  consistency-due T t said e =
+      rw (e ∙ model-loaded (shelfOf (k .shelf)) there T ∙ ap (λ (S : Set). gives (isClash (clashIn S))) t) (clash-due (left cs) (left-sound cs) (clashIn (M (programIn (left cs)))) refl)
+
   -- every model call of a run gives M, N and whether the lesson is contradictory, of the list's program
   pub model-due : (r : ModelReply) → GivesModel (k .shelf) (k .lesson) r → ModelDue (left cs) r
   model-due r h =
       let stands = standing-left cs start k f run in
-      let said = h .says ∙ model-loaded (shelfOf (k .shelf)) there (truthsOf (k .lesson)) ∙ ap (λ (T : Set). gives (isClash (clashIn T))) (stands .truths) in
-      let due = clash-due (left cs) (rw (left-means cs start k f run) at (left-good cs start k f run .sound)) (clashIn (M (programIn (left cs)))) refl in
       record {
-        contradictory = rw said (due .0);
-        consistent = rw said (due .1);
+        consistency = consistency-due (truthsOf (k .lesson)) (stands .truths) _ (h .says);
         model-is =
             record {
               truths = h .truths ∙ part-loaded (shelfOf (k .shelf)) there (truthsOf (k .lesson)) ∅ ∙ stands .truths;
               nonfalse = h .nonfalse ∙ part-loaded (shelfOf (k .shelf)) there (nonfalseOf (k .lesson)) ∅ ∙ stands .nonfalse;
               rounds = h .rounds ∙ part-loaded (shelfOf (k .shelf)) there (k .lesson .model .rounds) 0 ∙ stands .rounds;
+            };
+      }
+
+  -- every working order of a run is that of the list's program, in which facts alter nothing
+  pub order-due : (r : OrderReply) → GivesOrder (k .shelf) r → OrderDue (left cs) r
+  unfolding programIn orderIn
+  order-due r h =
+      let P = programIn (left cs) in
+      let n = nameCount (left cs) in
+      record {
+        given = h .says ∙ loaded-says (shelfOf (k .shelf)) (gives acknowledged) there;
+        ones = leaders P n;
+        in-order = in-order P n;
+        table = h .table ∙ ap (λ (d : State). orderTable (orderIn (d .book))) (left-means cs start k f run)
+            ∙ ap orderTable (sym (order-facts (itsRules (left cs .book)) (members capacity (inForce (left cs .own))) n) ∙ order-is P n);
+      }
+
+  -- every model by groups of a run is M and N of the list's program
+  pub groups-due : (r : GroupsReply) → GivesGroups (k .shelf) (k .lesson) r → GroupsDue (left cs) r
+  groups-due r h =
+      let same = ap programIn (left-means cs start k f run) in
+      record {
+        consistency = consistency-due (M (programIn (stateOf k))) (ap M same) _ (h .says);
+        whole =
+            record {
+              truths = h .truths ∙ part-loaded (shelfOf (k .shelf)) there (M (programIn (stateOf k))) ∅ ∙ ap M same;
+              nonfalse = h .nonfalse ∙ part-loaded (shelfOf (k .shelf)) there (N (programIn (stateOf k))) ∅ ∙ ap N same;
             };
       }
 
@@ -74,7 +107,7 @@ module _ (cs : List Call) (start k : Desk) (f : Fresh start) (run : Run start cs
   -- a buffer of this length is enough for every listing
   pub listing-most : length (listingIn (left cs)) ≤ 65536
   listing-most =
-      let few = rounds-in-room (left cs) (rw (left-means cs start k f run) at (left-good cs start k f run .sound)) in
+      let few = rounds-in-room (left cs) (left-sound cs) in
       rw bytes-left at (bytes-most (k .shelf) (k .lesson) there (rw (standing-left cs start k f run .rounds) few))
 
   -- every listing of a run gives the length of the listing of the list's book and facts, and writes it into a buffer that is long enough

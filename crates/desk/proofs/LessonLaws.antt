@@ -11,14 +11,14 @@ use Rattle.lesson.specs.Calls.{shelfOf, meaningOf, bytesOf}
 use Rattle.lesson.specs.declared.Lesson.{Lesson}
 use Rattle.lesson.specs.declared.Change.{Change}
 use Rattle.lesson.specs.declared.ChangeReply.{ChangeReply}
-use Rattle.lesson.proofs.Rows.{change-by, verdict-by, search-by, model-by, listing-by}
+use Rattle.lesson.proofs.Rows.{change-by, verdict-by, search-by, model-by, working-order-by, listing-by}
 use Rattle.lesson.proofs.Sound.{sound-change}
 use Rattle.lesson.proofs.Standing.{change-stands, bytes-stand}
 use Rattle.lesson.proofs.ChangeLaws.{change-means, change-kept, change-exists}
-use Rattle.lesson.proofs.Exists.{verdict-exists, search-exists, model-reply-exists, listing-exists}
+use Rattle.lesson.proofs.Exists.{verdict-exists, search-exists, model-reply-exists, order-exists, groups-exists, listing-exists}
 use Rattle.calls.specs.Lists.{CallSpec}
 use Rattle.desk.specs.Calls.{stateOf}
-use Rattle.desk.specs.Runs.{change, verdict, search-for, model, listing, specOf}
+use Rattle.desk.specs.Runs.{change, verdict, search-for, model, working-order, model-by-groups, listing, specOf}
 use Rattle.desk.specs.declared.Desk.{Desk}
 use Rattle.desk.proofs.Laws.{Good, DeskLaws}
 
@@ -93,6 +93,28 @@ model-laws =
       exactly = λ k r g h number line. rw (h .says) (model-by (stateOf k) _ number);
       unwritten = λ k r h number line e. record {};
       replies = λ k. model-reply-exists (k .shelf) (k .lesson);
+    })
+
+pub order-laws : DeskLaws (specOf working-order)
+order-laws =
+    reading
+    (record {
+      stays = λ d. refl;
+      leaves = λ k r. refl;
+      exactly = λ k r g h number line. rw (h .says) (working-order-by (stateOf k) number);
+      unwritten = λ k r h number line e. record {};
+      replies = λ k. order-exists (k .shelf) (k .lesson);
+    })
+
+pub groups-laws : DeskLaws (specOf model-by-groups)
+groups-laws =
+    reading
+    (record {
+      stays = λ d. refl;
+      leaves = λ k r. refl;
+      exactly = λ k r g h number line. rw (h .says) (model-by (stateOf k) _ number);
+      unwritten = λ k r h number line e. record {};
+      replies = λ k. groups-exists (k .shelf) (k .lesson);
     })
 
 pub listing-laws : (buffer : List ℕ) → DeskLaws (specOf (listing buffer))

@@ -26,7 +26,7 @@ use Rattle.lister.specs.Listing.{listingBy, listingOf}
 use Rattle.lesson.specs.State.{loaded-with, State, itsNames, itsRules, noneLoaded, inForce, programIn, inBook, listingIn}
 use Rattle.lesson.proofs.Sound.{heads-in-book, heads-in-room}
 use Rattle.calls.specs.Lists.{afterAll}
-use Rattle.desk.specs.Runs.{Call, load, change, verdict as verdict-of, search-for, model, listing, nothing, afterLoad, specOf, left}
+use Rattle.desk.specs.Runs.{Call, load, change, verdict as verdict-of, search-for, model, working-order, model-by-groups, listing, nothing, afterLoad, specOf, left}
 use Rattle.desk.specs.Spelling.{declaringField, Spelled}
 use Rattle.desk.proofs.Exists.{left-sound}
 use Rattle.desk.proofs.Parted.{names-plain, name-in-line, name-in-header}
@@ -49,6 +49,8 @@ module _ (names : List (List ℕ)) (rules : List Rule) where
   by-call d (verdict-of A) e = inl e
   by-call d (search-for A default t) e = inl e
   by-call d model e = inl e
+  by-call d working-order e = inl e
+  by-call d model-by-groups e = inl e
   by-call d (listing buffer) e = inl e
 
   -- the book was there before the list, or one of its calls loads it

@@ -4,3 +4,4 @@ pub mod Runs
 pub mod Cases
 pub mod Spelling
 pub mod Rounds
+pub mod Groups

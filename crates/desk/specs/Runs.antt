@@ -21,8 +21,8 @@ use Rattle.reader.specs.Conditions.{Row, First, IsRefused}
 use Rattle.reader.specs.declared.Answer.the-variants as reading
 use Rattle.fixpoint.specs.Result.{ModelOf}
 use Rattle.lesson.specs.State.{unloaded, loaded-with, emptied, State, programIn, inBook, ContradictoryOver, listingIn, Said, gives, refused, ownAfter}
-use Rattle.lesson.specs.Calls.{changeSaid, Changes, verdictSaid, GivesVerdict, searchSaid, Searches, modelSaid, GivesModel, listingSaid, Lists}
-use Rattle.lesson.specs.Conditions.{changeRows, verdictRows, searchRows, modelRows, listingRows}
+use Rattle.lesson.specs.Calls.{changeSaid, Changes, verdictSaid, GivesVerdict, searchSaid, Searches, modelSaid, GivesModel, orderSaid, GivesOrder, GivesGroups, listingSaid, Lists}
+use Rattle.lesson.specs.Conditions.{changeRows, verdictRows, searchRows, bookRows, listingRows}
 use Rattle.lesson.specs.declared.Shelf.{Shelf}
 use Rattle.lesson.specs.declared.Lesson.{Lesson}
 use Rattle.lesson.specs.declared.Change.{Change}
@@ -30,6 +30,8 @@ use Rattle.lesson.specs.declared.ChangeReply.{ChangeReply}
 use Rattle.lesson.specs.declared.VerdictAnswer.{VerdictAnswer}
 use Rattle.lesson.specs.declared.SearchAnswer.{SearchAnswer}
 use Rattle.lesson.specs.declared.ModelReply.{ModelReply}
+use Rattle.lesson.specs.declared.OrderReply.{OrderReply}
+use Rattle.lesson.specs.declared.GroupsReply.{GroupsReply}
 use Rattle.lesson.specs.declared.ListingAnswer.{ListingAnswer}
 use Rattle.calls.specs.Lists.{CallSpec, afterAll, RunOf}
 use Rattle.desk.specs.Calls.{Loads}
@@ -44,6 +46,8 @@ pub data Call : Type 0 where
   verdict : ℕ → Call
   search-for : ℕ → Bool → Tree → Call
   model : Call
+  working-order : Call
+  model-by-groups : Call
   listing : List ℕ → Call
 
 -- ---- each call as one record
@@ -106,7 +110,9 @@ specOf (change c) =
     }
 specOf (verdict A) = readingCall VerdictAnswer (λ s l r. GivesVerdict s l A r) verdictSaid (λ d. verdictRows d A)
 specOf (search-for A default t) = readingCall SearchAnswer (λ s l r. Searches s l A t (questionOf A default) r) searchSaid (λ d. searchRows d A)
-specOf model = readingCall ModelReply GivesModel (λ r. modelSaid (r .answer)) modelRows
+specOf model = readingCall ModelReply GivesModel (λ r. modelSaid (r .answer)) bookRows
+specOf working-order = readingCall OrderReply (λ s l r. GivesOrder s r) (λ r. orderSaid (r .answer)) bookRows
+specOf model-by-groups = readingCall GroupsReply GivesGroups (λ r. modelSaid (r .answer)) bookRows
 specOf (listing buffer) = lentCall buffer ListingAnswer (λ s l r after. Lists s l buffer r after) listingSaid (λ d. listingRows d buffer)
 
 -- ---- lists
@@ -141,10 +147,14 @@ pub record VerdictDue (d : State) (A : ℕ) (said : Said wfsx.Verdict) : Type 0 
   pub refused-24 : (said ≡ refused 24) ↔ ContradictoryOver (inBook (d .book)) d
   pub given : (ContradictoryOver (inBook (d .book)) d → ⊥) → (v : wfsx.Verdict) × (said ≡ gives v) × ModelVerdict (inBook (d .book)) (programIn d) A v
 
+-- whether the lesson is contradictory is said as it is
+pub record ConsistencyDue (d : State) (said : Said Bool) : Type 0 where
+  pub contradictory : (said ≡ gives true) ↔ ContradictoryOver (inBook (d .book)) d
+  pub consistent : (said ≡ gives false) ↔ (ContradictoryOver (inBook (d .book)) d → ⊥)
+
 -- the model call answers M, N, how many rounds M takes (document 02, A.10) and whether the lesson is contradictory
 pub record ModelDue (d : State) (r : ModelReply) : Type 0 where
-  pub contradictory : (modelSaid (r .answer) ≡ gives true) ↔ ContradictoryOver (inBook (d .book)) d
-  pub consistent : (modelSaid (r .answer) ≡ gives false) ↔ (ContradictoryOver (inBook (d .book)) d → ⊥)
+  pub consistency : ConsistencyDue d (modelSaid (r .answer))
   pub model-is : ModelOf (programIn d) (r .model)
 
 -- the listing call answers the listing's length and writes the listing, byte for byte; the bytes after it stay

@@ -5,7 +5,7 @@ use mathlib.Core.List.{List}
 use Prim.Native.Nat.{ℕ}
 use lib.ListN.{replicate}
 use Rattle.wfsx.specs.Sets.{∅}
-use Rattle.wfsx.specs.Program.{Entry}
+use Rattle.wfsx.specs.Program.{Entry, Program}
 use Rattle.wfsx.specs.Model as wfsx
 use Rattle.wfsx.specs.Trees.{Tree}
 use Rattle.litset.specs.Words.{nWords, setOf}
@@ -15,9 +15,11 @@ use Rattle.book.specs.Book.{programOf}
 use Rattle.book.specs.declared.Book.{Book}
 use Rattle.book.proofs.Heads.{program-heads}
 use Rattle.fixpoint.specs.declared.Verdict.the-variants.{True, False, Undefined}
+use Rattle.fixpoint.specs.declared.Values.{Values}
+use Rattle.reach.specs.Order.{orderTable}
 use Rattle.fixpoint.proofs.Published.{model-exists}
-use Rattle.lesson.specs.State.{BookState, noneLoaded, Said, gives, refused, searchSays, verdictSays, modelSays, whereLoaded, listingSays, bufferAfter}
-use Rattle.lesson.specs.Calls.{shelfOf, meaningOf, truthsOf, nonfalseOf, Begins, verdictSaid, GivesVerdict, searchSaid, Searches, modelSaid, GivesModel, listingSaid, bytesOf, Lists}
+use Rattle.lesson.specs.State.{BookState, noneLoaded, inForce, programIn, Said, gives, refused, Ack, acknowledged, ifLoaded, searchSays, verdictSays, modelSays, whereLoaded, orderIn, listingSays, bufferAfter}
+use Rattle.lesson.specs.Calls.{shelfOf, ownOf, meaningOf, truthsOf, nonfalseOf, Begins, verdictSaid, GivesVerdict, searchSaid, Searches, modelSaid, GivesModel, orderSaid, GivesOrder, GivesGroups, listingSaid, bytesOf, Lists}
 use Rattle.lesson.specs.declared.Shelf.{Shelf}
 use Rattle.lesson.specs.declared.Lesson.{Lesson}
 use Rattle.lesson.specs.declared.VerdictAnswer.{VerdictAnswer}
@@ -27,8 +29,13 @@ use Rattle.lesson.specs.declared.SearchAnswer.the-variants as searched
 use Rattle.lesson.specs.declared.ModelReply.{ModelReply}
 use Rattle.lesson.specs.declared.ModelAnswer.{ModelAnswer}
 use Rattle.lesson.specs.declared.ModelAnswer.the-variants as model
+use Rattle.lesson.specs.declared.OrderReply.{OrderReply}
+use Rattle.lesson.specs.declared.OrderAnswer.{OrderAnswer}
+use Rattle.lesson.specs.declared.OrderAnswer.the-variants as order
+use Rattle.lesson.specs.declared.GroupsReply.{GroupsReply}
 use Rattle.lesson.specs.declared.ListingAnswer.{ListingAnswer}
 use Rattle.lesson.specs.declared.ListingAnswer.the-variants as listing
+use Rattle.lesson.proofs.Meaning.{program-is}
 
 abbrev none : LitSet
 none = record { words = replicate nWords 0 }
@@ -53,6 +60,10 @@ model-for (gives true) = (model.Contradictory, refl)
 model-for (gives false) = (model.Consistent, refl)
 model-for (refused n) = (model.Refused n, refl)
 
+order-for : (said : Said Ack) → (a : OrderAnswer) × (orderSaid a ≡ said)
+order-for (gives acknowledged) = (order.Given, refl)
+order-for (refused n) = (order.Refused n, refl)
+
 length-for : (said : Said ℕ) → (a : ListingAnswer) × (listingSaid a ≡ said)
 length-for (gives n) = (listing.Length n, refl)
 length-for (refused n) = (listing.Refused n, refl)
@@ -64,6 +75,22 @@ set-for b t = go (noneLoaded b)
     go : (none-loaded : Bool) → (u : LitSet) × (setOf (u .words) ≡ cond none-loaded ∅ (setOf (t .words)))
     go true = (none, set-zeros nWords)
     go false = (t, refl)
+
+-- sets that hold M and N of a lesson's program where there is a book, and nothing where there is none
+values-for : (s : Shelf) (l : Lesson) → (v : Values)
+    × (setOf (v .truths .words) ≡ whereLoaded (shelfOf s) (wfsx.M (programIn (meaningOf s l))) ∅) × (setOf (v .nonfalse .words) ≡ whereLoaded (shelfOf s) (wfsx.N (programIn (meaningOf s l))) ∅)
+unfolding whereLoaded
+values-for s l = go (noneLoaded (shelfOf s)) refl
+  where
+    P : Program
+    P = programIn (meaningOf s l)
+
+    go : (none-loaded : Bool) → noneLoaded (shelfOf s) ≡ none-loaded
+        → (v : Values) × (setOf (v .truths .words) ≡ cond none-loaded ∅ (wfsx.M P)) × (setOf (v .nonfalse .words) ≡ cond none-loaded ∅ (wfsx.N P))
+    go true e = (record { truths = none; nonfalse = none }, set-zeros nWords, set-zeros nWords)
+    go false e =
+        let m = model-exists P (rw (program-is s e (ownOf l)) at (program-heads (s .book) (inForce (ownOf l)))) in
+        (record { truths = m .0 .truths; nonfalse = m .0 .nonfalse }, m .1 .truths, m .1 .nonfalse)
 
 module _ (s : Shelf) (l : Lesson) where
   pub verdict-exists : (A : ℕ) → (r : VerdictAnswer) × GivesVerdict s l A r
@@ -81,6 +108,17 @@ module _ (s : Shelf) (l : Lesson) where
       let U = set-for (shelfOf s) (l .model .nonfalse) in
       let k = whereLoaded (shelfOf s) (l .model .rounds) 0 in
       (record { answer = w .0; model = record { truths = T .0; nonfalse = U .0; rounds = k } }, record { says = w .1; truths = T .1; nonfalse = U .1; rounds = refl })
+
+  pub order-exists : (r : OrderReply) × GivesOrder s r
+  order-exists =
+      let w = order-for (ifLoaded (shelfOf s) (gives acknowledged)) in
+      (record { answer = w .0; order = orderTable (orderIn (shelfOf s)) }, record { says = w .1; table = refl })
+
+  pub groups-exists : (r : GroupsReply) × GivesGroups s l r
+  groups-exists =
+      let w = model-for (modelSays (shelfOf s) (wfsx.M (programIn (meaningOf s l)))) in
+      let v = values-for s l in
+      (record { answer = w .0; values = v .0 }, record { says = w .1; truths = v .1; nonfalse = v .2 })
 
   pub listing-exists : (buffer : List ℕ) → (r : ListingAnswer) × (after : List ℕ) × Lists s l buffer r after
   listing-exists buffer =

@@ -1,13 +1,16 @@
 -- What a reply is once the tests of a call have picked an arm, over plain values: the calls' proofs cite these.
 use mathlib.Core.Path.{_≡_, refl, sym, _∙_, ap}
 use mathlib.Core.Bool.{Bool, true, false, cond, true≢false}
-use mathlib.Core.List.{List}
+use mathlib.Core.List.{List, []}
 use lib.Dec.{leb}
 use lib.ListN.{length}
 use Prim.Native.Nat.{ℕ, _≤_, _<_}
 use native.Mathlib.Omega.{arith}
 use Rattle.wfsx.specs.Sets.{Set, ∅}
 use Rattle.wfsx.specs.Program.{Entry, Program}
+use Rattle.wfsx.specs.Model.{M, N}
+use Rattle.wfsx.specs.Groups.{workingOrder}
+use Rattle.wfsx.proofs.Order.{order-empty}
 use Rattle.wfsx.specs.Trees as trees
 use Rattle.wfsx.specs.Trees.{answer}
 use Rattle.litset.specs.Words.{capacity, setOf, with, without, clashIn}
@@ -15,18 +18,24 @@ use Rattle.litset.specs.declared.LitSet.{LitSet}
 use Rattle.litset.proofs.Words.{with-room}
 use Rattle.litset.specs.declared.Clash.{Clash}
 use Rattle.litset.specs.declared.Clash.the-variants as clash
-use Rattle.book.specs.Book.{programOf}
+use Rattle.book.specs.Limits.{maxNames}
+use Rattle.book.specs.Book.{clamp, rulesOf, programOf}
+use Rattle.book.proofs.Names.{names-counted}
 use Rattle.fixpoint.specs.Result.{verdictIs, verdictIn}
 use Rattle.fixpoint.specs.declared.Model.{Model}
+use Rattle.fixpoint.specs.declared.Values.{Values}
 use Rattle.fixpoint.specs.declared.Verdict.{Verdict}
+use Rattle.reach.specs.Order.{orderTable}
+use Rattle.reach.specs.declared.Order.{Order}
+use Rattle.groups.specs.Whole.{WholeOf}
 use Rattle.lister.specs.Listing as lister
 use Rattle.lister.specs.Buffer.{Writes}
 use Rattle.lister.specs.declared.Written.{Written}
 use Rattle.lister.specs.declared.Written.the-variants.{Length, Short}
 use Rattle.lister.proofs.Calls.{was-written, was-short}
 use Rattle.lister.proofs.Lines.{listing-room}
-use Rattle.lesson.specs.State.{inForce, Said, gives, refused, Ack, acknowledged, noneLoaded, inOrder, itsLiteral, changeFits, changeSays, changedSet, changed, searchSays, unlessClash, verdictSays, isClash, modelSays, whereLoaded, listingFrom, listingSays}
-use Rattle.lesson.specs.Calls.{shelfOf, ownOf, meaningOf, truthsOf, nonfalseOf, numberSays, ModelAfter, Changes, GivesVerdict, Searches, GivesModel, bytesOf, Lists}
+use Rattle.lesson.specs.State.{inForce, Said, gives, refused, Ack, acknowledged, noneLoaded, inOrder, itsLiteral, changeFits, changeSays, changedSet, changed, searchSays, unlessClash, verdictSays, isClash, modelSays, whereLoaded, programIn, orderIn, listingFrom, listingSays}
+use Rattle.lesson.specs.Calls.{shelfOf, ownOf, meaningOf, truthsOf, nonfalseOf, numberSays, ModelAfter, Changes, GivesVerdict, Searches, modelSaid, GivesModel, GivesOrder, GivesGroups, bytesOf, Lists}
 use Rattle.lesson.specs.declared.Shelf.{Shelf}
 use Rattle.lesson.specs.declared.Lesson.{Lesson}
 use Rattle.lesson.specs.declared.Change.{Change}
@@ -34,10 +43,12 @@ use Rattle.lesson.specs.declared.Change.the-variants.{PutIn, TakeOut}
 use Rattle.lesson.specs.declared.ChangeAnswer.the-variants as change
 use Rattle.lesson.specs.declared.VerdictAnswer.the-variants as verdict
 use Rattle.lesson.specs.declared.SearchAnswer.the-variants as searched
+use Rattle.lesson.specs.declared.ModelAnswer.{ModelAnswer}
 use Rattle.lesson.specs.declared.ModelAnswer.the-variants as model
+use Rattle.lesson.specs.declared.OrderAnswer.the-variants as order
 use Rattle.lesson.specs.declared.ListingAnswer.the-variants as listing
 use Rattle.lesson.proofs.Order.{unloaded-says, loaded-says, given-inside, number-refused, number-given, turned-down, state-passed, passed}
-use Rattle.lesson.proofs.Meaning.{shelf-loaded, none-loaded-is, loaded-is, inside-room, program-is}
+use Rattle.lesson.proofs.Meaning.{shelf-empty, shelf-loaded, none-loaded-is, loaded-is, inside-room, program-is}
 
 -- ---- the lesson
 
@@ -140,6 +151,10 @@ module _ (s : Shelf) (l : Lesson) (A n : ℕ) (e : numberSays n ≡ inOrder (she
 
 -- ---- model
 
+-- whether there is a clash is said by its case
+pub clash-said : (T : Set) (found : Clash) → found ≡ clashIn T → (c : Clash) → found ≡ c → _≡_ {A = Said Bool} (gives (isClash c)) (gives (isClash (clashIn T)))
+clash-said T found f c h = ap (λ (x : Clash). gives (isClash x)) (sym h ∙ f)
+
 module _ (s : Shelf) (l : Lesson) where
   pub model-20 : s .loaded ≡ 0 → (T U : LitSet) → setOf (T .words) ≡ ∅ → setOf (U .words) ≡ ∅
       → GivesModel s l (record { answer = model.Refused 20; model = record { truths = T; nonfalse = U; rounds = 0 } })
@@ -148,22 +163,49 @@ module _ (s : Shelf) (l : Lesson) where
       let none = none-loaded-is s e in
       record { says = sym (unloaded-says (shelfOf s) _ none); truths = rw none t; nonfalse = rw none u; rounds = rw none refl }
 
-  module _ (e : s .loaded ≡ 0 → ⊥) (found : Clash) (f : found ≡ clashIn (truthsOf l)) where
-    model-by : (b : Clash) → found ≡ b → modelSays (shelfOf s) (truthsOf l) ≡ gives (isClash b)
-    unfolding modelSays
-    model-by b h = loaded-says (shelfOf s) _ (loaded-is s e) ∙ ap (λ (x : Clash). gives (isClash x)) (sym f ∙ h)
+  pub model-given : (s .loaded ≡ 0 → ⊥) → (a : ModelAnswer) → modelSaid a ≡ gives (isClash (clashIn (truthsOf l))) → GivesModel s l (record { answer = a; model = l .model })
+  unfolding modelSays whereLoaded
+  model-given e a h =
+      let some = loaded-is s e in
+      record { says = h ∙ sym (loaded-says (shelfOf s) _ some); truths = rw some refl; nonfalse = rw some refl; rounds = rw some refl }
 
-    pub model-contradictory : (k : ℕ) → found ≡ clash.Name k → GivesModel s l (record { answer = model.Contradictory; model = l .model })
-    unfolding whereLoaded
-    model-contradictory k h =
-        let some = loaded-is s e in
-        record { says = sym (model-by (clash.Name k) h); truths = rw some refl; nonfalse = rw some refl; rounds = rw some refl }
+-- ---- working order, model by groups
 
-    pub model-consistent : found ≡ clash.None → GivesModel s l (record { answer = model.Consistent; model = l .model })
-    unfolding whereLoaded
-    model-consistent h =
-        let some = loaded-is s e in
-        record { says = sym (model-by clash.None h); truths = rw some refl; nonfalse = rw some refl; rounds = rw some refl }
+module _ (s : Shelf) where
+  pub order-20 : s .loaded ≡ 0 → (o : Order) → o ≡ orderTable [] → GivesOrder s (record { answer = order.Refused 20; order = o })
+  unfolding orderIn
+  order-20 e o h =
+      record { says = sym (unloaded-says (shelfOf s) _ (none-loaded-is s e)); table = h ∙ rw (shelf-empty s e) (ap orderTable (sym (order-empty []))) }
+
+  pub order-given : (s .loaded ≡ 0 → ⊥) → (o : Order) → o ≡ orderTable (workingOrder (rulesOf (s .book)) (clamp maxNames (s .book .names)))
+      → GivesOrder s (record { answer = order.Given; order = o })
+  unfolding orderIn
+  order-given e o h =
+      record {
+        says = sym (loaded-says (shelfOf s) _ (loaded-is s e));
+        table = h ∙ rw (shelf-loaded s e, names-counted (s .book)) refl;
+      }
+
+module _ (s : Shelf) (l : Lesson) where
+  pub groups-20 : s .loaded ≡ 0 → (T U : LitSet) → setOf (T .words) ≡ ∅ → setOf (U .words) ≡ ∅
+      → GivesGroups s l (record { answer = model.Refused 20; values = record { truths = T; nonfalse = U } })
+  unfolding modelSays whereLoaded
+  groups-20 e T U t u =
+      let none = none-loaded-is s e in
+      record { says = sym (unloaded-says (shelfOf s) _ none); truths = rw none t; nonfalse = rw none u }
+
+  pub groups-given : (s .loaded ≡ 0 → ⊥) → (F : Set) → F ≡ inForce (ownOf l) → (v : Values) → WholeOf (programOf (s .book) F) v
+      → (a : ModelAnswer) → modelSaid a ≡ gives (isClash (clashIn (setOf (v .truths .words)))) → GivesGroups s l (record { answer = a; values = v })
+  unfolding modelSays whereLoaded
+  groups-given e F force v h a q =
+      let some = loaded-is s e in
+      let same : programOf (s .book) F ≡ programIn (meaningOf s l) = ap (programOf (s .book)) force ∙ program-is s some (ownOf l) in
+      let truths = h .truths ∙ ap M same in
+      record {
+        says = q ∙ ap (λ (T : Set). gives (isClash (clashIn T))) truths ∙ sym (loaded-says (shelfOf s) _ some);
+        truths = rw some truths;
+        nonfalse = rw some (h .nonfalse ∙ ap N same);
+      }
 
 -- ---- listing
 

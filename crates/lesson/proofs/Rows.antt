@@ -20,7 +20,7 @@ use Rattle.reader.specs.Conditions.{Row, First}
 use Rattle.fixpoint.specs.Result.{verdictIn}
 use Rattle.fixpoint.proofs.Published.{no-clash, clash-name}
 use Rattle.lesson.specs.State.{BookState, unloaded, loaded-with, State, itsNames, programIn, ContradictoryOver, listingIn, noneLoaded, inBook, Said, gives, refused, acknowledged, ifLoaded, inOrder, itsLiteral, changeFits, changeSays, searchSays, unlessClash, verdictSays, modelSays, listingSays}
-use Rattle.lesson.specs.Conditions.{NoBook, NotBelow, changeRow, changeRows, verdictRows, searchRows, modelRows, listingRows}
+use Rattle.lesson.specs.Conditions.{NoBook, NotBelow, changeRow, changeRows, verdictRows, searchRows, bookRows, listingRows}
 use Rattle.lesson.specs.declared.Change.{Change}
 use Rattle.lesson.specs.declared.Change.the-variants.{PutIn, TakeOut}
 use Rattle.lesson.proofs.Order.{given-refused, refused-same, unloaded-says, loaded-says}
@@ -102,9 +102,12 @@ verdict-by d s T U t A = order-by d A ((24, ContradictoryOver (inBook (d .book))
     go (clash.Name n) e =
         met 24 (ContradictoryOver (inBook (d .book)) d) [] _ (clash-name (programIn d) (heads-in-room d s) (inBook (d .book)) (heads-in-book d s) n .0 (rw t at e) .0) refl
 
-pub model-by : (d : State) (T : Set) → By (modelSays (d .book) T) (modelRows d)
+pub model-by : (d : State) (T : Set) → By (modelSays (d .book) T) (bookRows d)
 unfolding modelSays
 model-by d T = loaded-by d [] _ (given-by _ _ refl)
+
+pub working-order-by : (d : State) → By (ifLoaded (d .book) (gives acknowledged)) (bookRows d)
+working-order-by d = loaded-by d [] _ (given-by acknowledged _ refl)
 
 pub listing-by : (d : State) (buffer : List ℕ) → By (listingSays (d .book) (listingIn d) buffer) (listingRows d buffer)
 unfolding listingSays

@@ -14,7 +14,8 @@ use Rattle.book.specs.Book.{namesOf, rulesOf, programOf}
 use Rattle.book.specs.declared.Book.{Book}
 use Rattle.fixpoint.specs.Result.{ModelOf, verdictIs}
 use Rattle.fixpoint.specs.declared.Model.{Model}
-use Rattle.lesson.specs.State.{BookState, unloaded, loaded-with, Own, State, inForce, programIn, Said, gives, refused, Ack, acknowledged, changeSays, changed, searchSays, verdictSays, modelSays, whereLoaded, listingFrom, listingSays, bufferAfter}
+use Rattle.reach.specs.Order.{orderTable}
+use Rattle.lesson.specs.State.{BookState, unloaded, loaded-with, Own, State, inForce, programIn, Said, gives, refused, Ack, acknowledged, changeSays, changed, searchSays, verdictSays, modelSays, whereLoaded, ifLoaded, orderIn, listingFrom, listingSays, bufferAfter}
 use Rattle.lesson.specs.declared.Shelf.{Shelf}
 use Rattle.lesson.specs.declared.Lesson.{Lesson}
 use Rattle.lesson.specs.declared.Change.{Change}
@@ -28,6 +29,10 @@ use Rattle.lesson.specs.declared.SearchAnswer.the-variants as searched
 use Rattle.lesson.specs.declared.ModelReply.{ModelReply}
 use Rattle.lesson.specs.declared.ModelAnswer.{ModelAnswer}
 use Rattle.lesson.specs.declared.ModelAnswer.the-variants as model
+use Rattle.lesson.specs.declared.OrderReply.{OrderReply}
+use Rattle.lesson.specs.declared.OrderAnswer.{OrderAnswer}
+use Rattle.lesson.specs.declared.OrderAnswer.the-variants as order
+use Rattle.lesson.specs.declared.GroupsReply.{GroupsReply}
 use Rattle.lesson.specs.declared.ListingAnswer.{ListingAnswer}
 use Rattle.lesson.specs.declared.ListingAnswer.the-variants as listing
 
@@ -117,6 +122,23 @@ pub record GivesModel (s : Shelf) (l : Lesson) (r : ModelReply) : Type 0 where
   pub truths : setOf (r .model .truths .words) ≡ whereLoaded (shelfOf s) (truthsOf l) ∅
   pub nonfalse : setOf (r .model .nonfalse .words) ≡ whereLoaded (shelfOf s) (nonfalseOf l) ∅
   pub rounds : r .model .rounds ≡ whereLoaded (shelfOf s) (l .model .rounds) 0
+
+-- ---- working order, model by groups
+
+abbrev pub orderSaid : OrderAnswer → Said Ack
+orderSaid order.Given = gives acknowledged
+orderSaid (order.Refused number) = refused number
+
+-- the table of the names in working order; a shelf without a book has none
+pub record GivesOrder (s : Shelf) (r : OrderReply) : Type 0 where
+  pub says : orderSaid (r .answer) ≡ ifLoaded (shelfOf s) (gives acknowledged)
+  pub table : r .order ≡ orderTable (orderIn (shelfOf s))
+
+-- M and N of the lesson's program, whatever sets stand
+pub record GivesGroups (s : Shelf) (l : Lesson) (r : GroupsReply) : Type 0 where
+  pub says : modelSaid (r .answer) ≡ modelSays (shelfOf s) (wfsx.M (programIn (meaningOf s l)))
+  pub truths : setOf (r .values .truths .words) ≡ whereLoaded (shelfOf s) (wfsx.M (programIn (meaningOf s l))) ∅
+  pub nonfalse : setOf (r .values .nonfalse .words) ≡ whereLoaded (shelfOf s) (wfsx.N (programIn (meaningOf s l))) ∅
 
 -- ---- listing
 

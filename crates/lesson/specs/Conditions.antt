@@ -32,8 +32,9 @@ verdictRows d A = (20, NoBook d) ∷ (21, NotBelow d A) ∷ (24, ContradictoryOv
 abbrev pub searchRows : State → ℕ → List Row
 searchRows d A = (20, NoBook d) ∷ (21, NotBelow d A) ∷ []
 
-abbrev pub modelRows : State → List Row
-modelRows d = (20, NoBook d) ∷ []
+-- the model call, the working order and the model by groups have 20 alone
+abbrev pub bookRows : State → List Row
+bookRows d = (20, NoBook d) ∷ []
 
 -- 25: the lent buffer is shorter than the listing
 abbrev pub listingRows : State → List ℕ → List Row

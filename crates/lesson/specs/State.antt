@@ -9,6 +9,7 @@ use Rattle.wfsx.specs.Sets.{Set, ∅, add}
 use Rattle.wfsx.specs.Program.{Entry, Rule, Program}
 use Rattle.wfsx.specs.Model.{Contradictory, Verdict}
 use Rattle.wfsx.specs.Trees.{Tree, answer}
+use Rattle.wfsx.specs.Groups.{workingOrder}
 use Rattle.litset.specs.Words.{without, clashIn}
 use Rattle.litset.specs.declared.Clash.{Clash}
 use Rattle.litset.specs.declared.Clash.the-variants.{None, Name}
@@ -144,6 +145,14 @@ modelSays b T = ifLoaded b (gives (isClash (clashIn T)))
 -- a part of the model where there is a book, and what is given in its place where there is none
 unfoldable pub whereLoaded : {X : Type 0} → BookState → X → X → X
 whereLoaded b part else = cond (noneLoaded b) else part
+
+-- ---- working order
+
+-- the groups of the book in working order (document 02, A.5): the names below their count, by the book's rules alone
+unfoldable pub orderIn : BookState → List (List ℕ)
+orderIn b = workingOrder (itsRules b) (length (itsNames b))
+
+-- ---- listing
 
 -- the bytes of the listing; k stands for the rounds
 unfoldable pub listingFrom : State → Set → Set → ℕ → List ℕ

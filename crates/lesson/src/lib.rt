@@ -2,17 +2,19 @@
 // changes the facts returns its answer and the lesson, and a refused one the lesson that it was given; a call that only reads returns its answer alone.
 ghost use mathlib.Core.Path.{_≡_};
 ghost use Prim.Native.Nat.{_<_};
-ghost use Rattle.litset.specs.Words.{capacity, setOf};
+ghost use Rattle.litset.specs.Words.{capacity, setOf, clashIn};
 ghost use Rattle.book.specs.Book.{programOf};
 ghost use Rattle.search.specs.Questions.{treeOf, questionOf};
-ghost use Rattle.lesson.specs.State.{acknowledged, gives, inOrder, inForce, itsLiteral, changeFits, changeSays, changedSet};
-ghost use Rattle.lesson.specs.Calls.{shelfOf, ownOf, meaningOf, numberSays, Begins, ModelAfter, Changes, GivesVerdict, Searches, GivesModel, Lists};
+ghost use Rattle.lesson.specs.State.{acknowledged, gives, inOrder, inForce, itsLiteral, changeFits, changeSays, changedSet, isClash};
+ghost use Rattle.lesson.specs.Calls.{shelfOf, ownOf, meaningOf, numberSays, Begins, ModelAfter, Changes, GivesVerdict, Searches, modelSaid, GivesModel, GivesOrder, GivesGroups, Lists};
 use book::Book;
 use fixpoint::Model;
+use fixpoint::Values;
 use fixpoint::Verdict;
 use lister::Written;
 use litset::Clash;
 use litset::LitSet;
+use reach::Order;
 use search::Tree;
 
 // The book, or none: `loaded` 0 says that there is none.
@@ -66,6 +68,23 @@ pub enum ModelAnswer {
 pub struct ModelReply {
     pub answer: ModelAnswer,
     pub model: Model,
+}
+
+pub enum OrderAnswer {
+    Given,
+    Refused(u8),
+}
+
+// The names in working order. Where the call is refused there are none.
+pub struct OrderReply {
+    pub answer: OrderAnswer,
+    pub order: Order,
+}
+
+// M and N, worked out group by group. Where the call is refused they are empty.
+pub struct GroupsReply {
+    pub answer: ModelAnswer,
+    pub values: Values,
 }
 
 pub enum ListingAnswer {
@@ -214,6 +233,16 @@ pub fn search(s: Shelf, l: Lesson, literal: usize, default: bool, tree: Tree) ->
     SearchAnswer::Given(holds)
 }
 
+// Whether a set that stands for M is that of a contradictory lesson.
+fn consistency(truths: LitSet) -> ModelAnswer
+    ensures { λ r. ⌜ modelSaid r ≡ gives (isClash (clashIn (setOf (truths .words)))) ⌝ }
+{
+    match litset::lowest_both(truths) {
+        Clash::Name(_) => ModelAnswer::Contradictory,
+        Clash::None => ModelAnswer::Consistent,
+    }
+}
+
 // M, N, the rounds, and whether the lesson is contradictory.
 pub fn model(s: Shelf, l: Lesson) -> ModelReply
     ensures { λ r. ⌜ GivesModel s l r ⌝ }
@@ -229,19 +258,52 @@ pub fn model(s: Shelf, l: Lesson) -> ModelReply
         };
     }
     let model = l.model;
-    match litset::lowest_both(model.truths) {
-        Clash::Name(_) => {
-            return ModelReply {
-                answer: ModelAnswer::Contradictory,
-                model,
-            };
-        }
-        Clash::None => {
-            return ModelReply {
-                answer: ModelAnswer::Consistent,
-                model,
-            };
-        }
+    ModelReply {
+        answer: consistency(model.truths),
+        model,
+    }
+}
+
+// ---- working order, model by groups
+
+// The names of the book in working order. Facts alter nothing of it, so it has no lesson.
+pub fn working_order(s: Shelf) -> OrderReply
+    ensures { λ r. ⌜ GivesOrder s r ⌝ }
+{
+    if s.loaded == 0 {
+        return OrderReply {
+            answer: OrderAnswer::Refused(20),
+            order: Order {
+                names: 0,
+                groups: 0,
+                name: [0u16; book::MAX_NAMES],
+                group: [0u16; book::MAX_NAMES],
+            },
+        };
+    }
+    OrderReply {
+        answer: OrderAnswer::Given,
+        order: reach::order_below(s.book, s.book.names),
+    }
+}
+
+// M and N worked out group by group in working order, and whether the lesson is contradictory. The model that stands is not read.
+pub fn model_by_groups(s: Shelf, l: Lesson) -> GroupsReply
+    ensures { λ r. ⌜ GivesGroups s l r ⌝ }
+{
+    if s.loaded == 0 {
+        return GroupsReply {
+            answer: ModelAnswer::Refused(20),
+            values: Values {
+                truths: litset::empty(),
+                nonfalse: litset::empty(),
+            },
+        };
+    }
+    let values = groups::model_by_groups(s.book, in_force(l));
+    GroupsReply {
+        answer: consistency(values.truths),
+        values,
     }
 }
 

@@ -13,6 +13,8 @@ use Rattle.search.specs.declared.Tree.{Tree}
 use Rattle.lesson.specs.declared.Shelf.{Shelf}
 use Rattle.lesson.specs.declared.ChangeReply as lesson-change
 use Rattle.lesson.specs.declared.ModelReply as lesson-model
+use Rattle.lesson.specs.declared.OrderReply as lesson-order
+use Rattle.lesson.specs.declared.GroupsReply as lesson-groups
 use Rattle.lesson.specs.declared.ChangeAnswer.{ChangeAnswer}
 use Rattle.lesson.specs.declared.ChangeAnswer.the-variants as change
 use Rattle.lesson.specs.declared.VerdictAnswer.{VerdictAnswer}
@@ -21,6 +23,8 @@ use Rattle.lesson.specs.declared.SearchAnswer.{SearchAnswer}
 use Rattle.lesson.specs.declared.SearchAnswer.the-variants as searched
 use Rattle.lesson.specs.declared.ModelAnswer.{ModelAnswer}
 use Rattle.lesson.specs.declared.ModelAnswer.the-variants as model
+use Rattle.lesson.specs.declared.OrderAnswer.{OrderAnswer}
+use Rattle.lesson.specs.declared.OrderAnswer.the-variants as order
 use Rattle.lesson.specs.declared.ListingAnswer.{ListingAnswer}
 use Rattle.lesson.specs.declared.ListingAnswer.the-variants as listing
 use Rattle.desk.specs.declared.LoadReply as desk-load
@@ -30,6 +34,8 @@ use Rattle.mezhkura.specs.declared.ChangeReply.{ChangeReply}
 use Rattle.mezhkura.specs.declared.VerdictReply.{VerdictReply}
 use Rattle.mezhkura.specs.declared.SearchReply.{SearchReply}
 use Rattle.mezhkura.specs.declared.ModelReply.{ModelReply}
+use Rattle.mezhkura.specs.declared.OrderReply.{OrderReply}
+use Rattle.mezhkura.specs.declared.GroupsReply.{GroupsReply}
 use Rattle.mezhkura.specs.declared.ListingReply.{ListingReply}
 
 -- ---- sizing
@@ -118,6 +124,20 @@ abbrev pub ModelIn : (lesson-model.ModelReply → Type 0) → ModelReply → Typ
 ModelIn May r =
     (q : lesson-model.ModelReply) × May q × (r .number ≡ modelNumber (q .answer)) × (r .contradictory ≡ modelValue (q .answer))
     × (r .truths ≡ q .model .truths) × (r .nonfalse ≡ q .model .nonfalse) × (r .rounds ≡ q .model .rounds)
+
+-- ---- working order, model by groups
+
+abbrev pub orderNumber : OrderAnswer → ℕ
+orderNumber order.Given = 0
+orderNumber (order.Refused number) = number
+
+abbrev pub OrderIn : (lesson-order.OrderReply → Type 0) → OrderReply → Type 0
+OrderIn May r = (q : lesson-order.OrderReply) × May q × (r .number ≡ orderNumber (q .answer)) × (r .order ≡ q .order)
+
+abbrev pub GroupsIn : (lesson-groups.GroupsReply → Type 0) → GroupsReply → Type 0
+GroupsIn May r =
+    (q : lesson-groups.GroupsReply) × May q × (r .number ≡ modelNumber (q .answer)) × (r .contradictory ≡ modelValue (q .answer))
+    × (r .truths ≡ q .values .truths) × (r .nonfalse ≡ q .values .nonfalse)
 
 -- ---- listing
 

@@ -5,19 +5,21 @@ ghost use Rattle.scan.specs.declared.Alphabet.the-variants.{EitherCase};
 ghost use Rattle.reader.specs.File.{readFile};
 ghost use Rattle.reader.specs.Sizing.{sizeOf};
 ghost use Rattle.search.specs.Questions.{treeOf, questionOf};
-ghost use Rattle.lesson.specs.Calls.{Changes, GivesVerdict, Searches, GivesModel, Lists};
+ghost use Rattle.lesson.specs.Calls.{Changes, GivesVerdict, Searches, GivesModel, GivesOrder, GivesGroups, Lists};
 ghost use Rattle.lesson.specs.declared.Change.the-variants.{PutIn, TakeOut};
 ghost use Rattle.desk.specs.Calls.{Fresh, Loads};
-ghost use Rattle.mezhkura.specs.Numbers.{sizeNumbers, loadNumber, loadLine, changeNumber, verdictNumber, verdictValue, searchNumber, searchValue, modelNumber, modelValue, listingNumber, listingLength, isSet, kindOf, LoadIn, ChangeIn, VerdictIn, SearchIn, ModelIn, ListingIn};
+ghost use Rattle.mezhkura.specs.Numbers.{sizeNumbers, loadNumber, loadLine, changeNumber, verdictNumber, verdictValue, searchNumber, searchValue, modelNumber, modelValue, orderNumber, listingNumber, listingLength, isSet, kindOf, LoadIn, ChangeIn, VerdictIn, SearchIn, ModelIn, OrderIn, GroupsIn, ListingIn};
 use desk::Desk;
 use fixpoint::Verdict;
 use lesson::Change;
 use lesson::ChangeAnswer;
 use lesson::ListingAnswer;
 use lesson::ModelAnswer;
+use lesson::OrderAnswer;
 use lesson::SearchAnswer;
 use lesson::VerdictAnswer;
 use litset::LitSet;
+use reach::Order;
 use reader::Answer;
 use reader::SizeAnswer;
 use search::Tree;
@@ -63,6 +65,20 @@ pub struct ModelReply {
     pub truths: LitSet,
     pub nonfalse: LitSet,
     pub rounds: usize,
+}
+
+#[repr(C)]
+pub struct OrderReply {
+    pub number: u8,
+    pub order: Order,
+}
+
+#[repr(C)]
+pub struct GroupsReply {
+    pub number: u8,
+    pub contradictory: u8,
+    pub truths: LitSet,
+    pub nonfalse: LitSet,
 }
 
 #[repr(C)]
@@ -303,6 +319,46 @@ pub extern "C" fn mezhkura_model(desk: Desk) -> ModelReply
         truths,
         nonfalse,
         rounds,
+    }
+}
+
+// ---- working order, model by groups
+
+fn order_number(a: OrderAnswer) -> u8
+    ensures { λ r. ⌜ r ≡ orderNumber a ⌝ }
+{
+    match a {
+        OrderAnswer::Given => 0,
+        OrderAnswer::Refused(number) => number,
+    }
+}
+
+#[no_mangle]
+pub extern "C" fn mezhkura_working_order(desk: Desk) -> OrderReply
+    ensures { λ r. ⌜ OrderIn (GivesOrder (desk .shelf)) r ⌝ }
+{
+    let q = lesson::working_order(desk.shelf);
+    let answer = q.answer;
+    let order = q.order;
+    OrderReply {
+        number: order_number(answer),
+        order,
+    }
+}
+
+#[no_mangle]
+pub extern "C" fn mezhkura_model_by_groups(desk: Desk) -> GroupsReply
+    ensures { λ r. ⌜ GroupsIn (GivesGroups (desk .shelf) (desk .lesson)) r ⌝ }
+{
+    let q = lesson::model_by_groups(desk.shelf, desk.lesson);
+    let answer = q.answer;
+    let truths = q.values.truths;
+    let nonfalse = q.values.nonfalse;
+    GroupsReply {
+        number: model_number(answer),
+        contradictory: model_value(answer),
+        truths,
+        nonfalse,
     }
 }
 

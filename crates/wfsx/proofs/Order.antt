@@ -49,6 +49,11 @@ first-lowest S b (suc n) k ks e j l h = go (first-lowest S (suc b) n k ks) (S b)
     go rest false q e (yes i) = rw (← i) q
     go rest false q e (no i) = rest e j (omega arith) h
 
+-- without names there are no groups
+pub order-empty : (P : Program) → workingOrder P 0 ≡ []
+unfolding workingOrder orderBy leadersFrom
+order-empty P = refl
+
 -- facts alter no order
 pub order-facts : (rules : List Rule) (l : List ℕ) (n : ℕ) → workingOrder (withFacts rules l) n ≡ workingOrder rules n
 unfolding workingOrder

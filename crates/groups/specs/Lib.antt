@@ -1,0 +1,3 @@
+-- What the contracts of `groups` cite.
+pub mod Whole
+pub mod Parts

@@ -1,0 +1,3 @@
+-- What the contracts of `reach` cite.
+pub mod Order
+pub mod Table
