@@ -21,7 +21,8 @@ use Rattle.wfsx.proofs.Rounds.{rounds-only, M-from-rounds}
 use Rattle.wfsx.proofs.Steps.{round-monotone, least-fixed, least-inside, least-same}
 use Rattle.litset.specs.Words.{capacity, setOf}
 use Rattle.book.specs.Book.{program}
-use Rattle.fixpoint.specs.Result.{SettledFrom, ModelOf, StepOf, valuesOf}
+use Rattle.fixpoint.specs.Pass.{SettledFrom}
+use Rattle.fixpoint.specs.Result.{ModelOf, StepOf, valuesOf}
 use Rattle.fixpoint.specs.declared.Model.{Model}
 use Rattle.fixpoint.specs.declared.Values.{Values}
 

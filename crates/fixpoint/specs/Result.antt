@@ -1,26 +1,19 @@
 -- What a model, a step of the model by groups, and a verdict are (document 01, "From rules to a model"; 001, definition 2; document 02, A.5 and A.10).
 use mathlib.Core.Path.{_≡_}
 use mathlib.Core.Bool.{cond}
-use Prim.Native.Nat.{ℕ, suc, _≤_}
-use Rattle.wfsx.specs.Sets.{Set, iterate}
+use Prim.Native.Nat.{ℕ}
+use Rattle.wfsx.specs.Sets.{Set}
 use Rattle.wfsx.specs.Program.{Program}
-use Rattle.wfsx.specs.Model.{Γs, M, N, is-true, is-false, is-undefined}
+use Rattle.wfsx.specs.Model.{M, N, is-true, is-false, is-undefined}
 use Rattle.wfsx.specs.Model as wfsx
 use Rattle.wfsx.specs.Rounds.{rounds}
-use Rattle.wfsx.specs.Groups.{roundOf, step}
+use Rattle.wfsx.specs.Groups.{step}
 use Rattle.wfsx.specs.Groups as groups
 use Rattle.litset.specs.Words.{capacity, setOf}
 use Rattle.fixpoint.specs.declared.Verdict.{Verdict}
 use Rattle.fixpoint.specs.declared.Verdict.the-variants.{True, False, Undefined}
 use Rattle.fixpoint.specs.declared.Model.{Model}
 use Rattle.fixpoint.specs.declared.Values.{Values}
-
--- where rounds from S come to a stop: the first set that stays the same, Γs of it, and how many rounds lead to it
-pub record SettledFrom (P Q : Program) (S : Set) (m : Model) : Type 0 where
-  pub reached : setOf (m .truths .words) ≡ iterate (roundOf P Q) S (m .rounds)
-  pub still : setOf (m .truths .words) ≡ roundOf P Q (setOf (m .truths .words))
-  pub nonfalse : setOf (m .nonfalse .words) ≡ Γs Q (setOf (m .truths .words))
-  pub first : (j : ℕ) → iterate (roundOf P Q) S j ≡ iterate (roundOf P Q) S (suc j) → m .rounds ≤ j
 
 -- the model of P: M, N, and how many rounds M takes
 pub record ModelOf (P : Program) (m : Model) : Type 0 where

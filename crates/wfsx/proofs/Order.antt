@@ -63,7 +63,7 @@ module _ (P : Program) where
   pub group-itself : (k : ℕ) → k ∈ group P k
   group-itself k = group-at P k k ∙ and-intro _ _ (reach-itself P k) (reach-itself P k)
 
-  pub same-group : (i k j : ℕ) → j ∈ group P i → j ∈ group P k → i ∈ group P k
+  same-group : (i k j : ℕ) → j ∈ group P i → j ∈ group P k → i ∈ group P k
   same-group i k j a b =
       let x = sym (group-at P i j) ∙ a in
       let y = sym (group-at P k j) ∙ b in
@@ -137,7 +137,7 @@ module _ (P : Program) (n : ℕ) where
               let w = waits-elim listed k j (v .0) in
               rest j (v .1) (w .2) (omega (arith, outside-falls (reach P j) (reach P k) (λ i q. reach-trans P k j i (w .0) q) k (w .1) (reach-itself P k) (in-names k l)))
 
-  pub some-comes : (listed : Set) (k : ℕ) → k < n → k ∉ listed → (j : ℕ) × MayCome P n listed j
+  some-comes : (listed : Set) (k : ℕ) → k < n → k ∉ listed → (j : ℕ) × MayCome P n listed j
   some-comes listed k l u = comes (length names) listed k l u (omega arith)
 
   -- where none may come every name is listed
@@ -298,7 +298,7 @@ module _ (P : Program) (n : ℕ) where
       go (inl l) = or-l (listed i) _ (w i j l g)
       go (inr q) = or-r (listed i) _ (same-group P i k j g q)
 
-  pub count-from : {listed : Set} {ks : List ℕ} → InOrder P n listed ks → Whole listed → length (members n listed) + namesListed ks ≡ n
+  count-from : {listed : Set} {ks : List ℕ} → InOrder P n listed ks → Whole listed → length (members n listed) + namesListed ks ≡ n
   unfolding namesListed
   count-from {listed} (all-listed all) w = omega (arith, length-all listed 0 n (λ j h. all j (omega arith)))
   count-from {listed} (comes-next {k = k} {ks = ks} c low rest) w =

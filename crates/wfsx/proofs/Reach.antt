@@ -17,12 +17,12 @@ use Rattle.wfsx.proofs.Chain.{chain-ind, chain-stops}
 
 -- ---- the names in bodies
 
-pub mentioned-intro : (es : List Entry) (e : Entry) → e isIn es → nameIn e ∈ mentioned es
+mentioned-intro : (es : List Entry) (e : Entry) → e isIn es → nameIn e ∈ mentioned es
 unfolding mentioned
 mentioned-intro (x ∷ es) e (List·Memᴰ·head q) = or-l (eqb (nameIn e) (nameIn x)) _ (eq-eqb _ _ (ap nameIn q))
 mentioned-intro (x ∷ es) e (List·Memᴰ·tail m) = or-r (eqb (nameIn e) (nameIn x)) _ (mentioned-intro es e m)
 
-pub mentioned-elim : (es : List Entry) (k : ℕ) → k ∈ mentioned es → (e : Entry) × e isIn es × (nameIn e ≡ k)
+mentioned-elim : (es : List Entry) (k : ℕ) → k ∈ mentioned es → (e : Entry) × e isIn es × (nameIn e ≡ k)
 unfolding mentioned
 mentioned-elim [] k h = absurd (clash h refl)
 mentioned-elim (x ∷ es) k h = go (mentioned-elim es k) (or-elim (eqb k (nameIn x)) (mentioned es k) h)

@@ -50,17 +50,17 @@ carry W P Q {S} {U} s given A w h = Γ-ind P S (λ B. nameOf B ∈ W → B ∈ �
 
 -- ---- the seminormal version
 
-pub same-name : (A : ℕ) → nameOf (compl A) ≡ nameOf A
+same-name : (A : ℕ) → nameOf (compl A) ≡ nameOf A
 same-name A = go (of-name A)
   where
     go : (A ≡ 2 * (A / 2)) ⊎ (A ≡ 2 * (A / 2) + 1) → nameOf (compl A) ≡ nameOf A
     go (inl e) = let c : compl A ≡ 2 * (A / 2) + 1 = ap compl e ∙ compl-even (A / 2) in omega arith
     go (inr e) = let c : compl A ≡ 2 * (A / 2) = ap compl e ∙ compl-odd (A / 2) in omega arith
 
-pub seminormal-in : (P : Program) (r : Rule) → r isIn P → seminormalRule r isIn seminormal P
+seminormal-in : (P : Program) (r : Rule) → r isIn P → seminormalRule r isIn seminormal P
 seminormal-in P r m = Memᴰ·map seminormalRule m
 
-pub seminormal-speaks : (W : Set) (r : Rule) → nameFor r ∈ W → Speaks W r → Speaks W (seminormalRule r)
+seminormal-speaks : (W : Set) (r : Rule) → nameFor r ∈ W → Speaks W r → Speaks W (seminormalRule r)
 seminormal-speaks W r h s e (List·Memᴰ·head q) = rw q (rw (same-name (r .head)) h)
 seminormal-speaks W r h s e (List·Memᴰ·tail m) = s e m
 

@@ -36,7 +36,7 @@ module _ (P Q : Program) where
   unfolding leastOf
   least-inside U c = chain-inside (roundOf P Q) round-monotone U c (length P)
 
-  pub rounds-inside : (k : ℕ) → iterate (roundOf P Q) ∅ k ⊆ leastOf P Q
+  rounds-inside : (k : ℕ) → iterate (roundOf P Q) ∅ k ⊆ leastOf P Q
   rounds-inside = chain-inside (roundOf P Q) round-monotone (leastOf P Q) (λ A a. rw least-fixed a)
 
 -- the least fixpoint comes from what the two operators give, whatever the programs
