@@ -8,7 +8,7 @@ use native.Mathlib.Decide.{decLt}
 use native.Mathlib.Nat.{sub-zero, add-zero}
 use native.Mathlib.Omega.{arith}
 use lib.Dec.{ltb}
-use lib.ListN.{length, replicate, length-append, length-map}
+use lib.ListN.{length, replicate, length-append, length-map, length-replicate}
 use lib.Seq.{sets}
 use borrow.Author.Tests.{lt-ltb}
 use Rattle.truth.proofs.Truth.{clash, and-intro}
@@ -22,9 +22,11 @@ use Rattle.book.specs.Limits.{maxNames}
 use Rattle.book.specs.Book.{padded, joined}
 use Rattle.book.proofs.Tables.{padded-length, padded-sets, joined-more}
 use Rattle.reach.specs.Order.{numbered, orderTable}
-use Rattle.reach.specs.Table.{nNames, WholeRows, bothIn, below, unlistedBelow, Next, found, nothing, Waiting, PutFits, PutNames}
+use Rattle.reach.specs.Table.{nNames, tableSize, WholeRows, bothIn, below, unlistedBelow, Next, found, nothing, Waiting, Stuck, Released, PutFits, PutNames}
 use Rattle.reach.proofs.Names.{both-names, literal-in}
 use Rattle.reach.proofs.Placing.{members-below}
+use Rattle.reach.proofs.Rows.{row-zeros}
+use Rattle.reach.proofs.Waiting.{stuck-left}
 
 -- ---- the number of each place
 
@@ -62,13 +64,14 @@ module _ (P : Program) (n : ℕ) where
   abbrev named : ℕ → List ℕ
   named k = members n (group P k)
 
-  pub record Listing (left : Set) (name numbers : List ℕ) (at groups : ℕ) : Type 0 where
+  pub record Listing (left : Set) (watch : List ℕ) (stuck : Set) (name numbers : List ℕ) (at groups : ℕ) : Type 0 where
     pub listed : Set
     pub before : List (List ℕ)
     pub rest : List ℕ
     pub order : InOrder P n listed rest
     pub whole : Whole P n listed
     pub left-are : left ≡ literalsOf (unlistedBelow n listed)
+    pub waiting : Stuck P n listed watch stuck
     pub all : workingOrder P n ≡ before ++ map named rest
     pub total : at + namesListed P n rest ≡ n
     pub places : at ≡ length (joined before)
@@ -77,9 +80,9 @@ module _ (P : Program) (n : ℕ) where
     pub names-are : name ≡ padded maxNames (joined before)
     pub numbers-are : numbers ≡ padded maxNames (numbered 0 before)
 
-  pub listing-start : (left : Set) → left ≡ literalsOf (below n) → Listing left (replicate maxNames 0) (replicate maxNames 0) 0 0
+  pub listing-start : n ≤ maxNames → (left stuck : Set) → left ≡ literalsOf (below n) → stuck ≡ ∅ → Listing left (replicate tableSize 0) stuck (replicate maxNames 0) (replicate maxNames 0) 0 0
   unfolding joined numbered
-  listing-start left e =
+  listing-start most left stuck e none =
       record {
         listed = ∅;
         before = [];
@@ -87,6 +90,12 @@ module _ (P : Program) (n : ℕ) where
         order = in-order P n;
         whole = whole-none P n;
         left-are = e ∙ fun-ext (λ A. sym (and-true _));
+        waiting =
+            record {
+              size = length-replicate {A = ℕ} tableSize 0;
+              watched = λ j A l h. absurd (clash (ap (λ (S : Set). S A) (sym (row-zeros j (omega arith))) ∙ h) refl);
+              on = λ A h. absurd (clash (ap (λ (S : Set). S A) (sym none) ∙ h) refl);
+            };
         all = order-is P n;
         total = omega (arith, all-counted P n);
         places = refl;
@@ -96,7 +105,7 @@ module _ (P : Program) (n : ℕ) where
         numbers-are = refl;
       }
 
-  module _ (left : Set) (name numbers : List ℕ) (at groups : ℕ) (s : Listing left name numbers at groups) (most : n ≤ maxNames) where
+  module _ (left : Set) (watch : List ℕ) (stuck : Set) (name numbers : List ℕ) (at groups : ℕ) (s : Listing left watch stuck name numbers at groups) (most : n ≤ maxNames) where
     pub listing-waits : (table : List ℕ) → WholeRows P n table → Waiting P n (s .listed) table left
     listing-waits table rows = record { most = omega arith; rows = rows; groups = s .whole; left-are = s .left-are }
 
@@ -169,9 +178,10 @@ module _ (P : Program) (n : ℕ) where
         pub listing-less : n - end < n - at
         listing-less = omega (arith, end-is, counts, some-name)
 
-        pub listing-more : (left′ : Set) → left′ ≡ left ∖ G → Listing left′ name′ numbers′ end (groups + 1)
+        pub listing-more : (left′ : Set) (watch′ : List ℕ) (waits stuck′ : Set) → left′ ≡ left ∖ G → Stuck P n (s .listed) watch′ waits → Released watch′ G waits stuck′
+            → Listing left′ watch′ stuck′ name′ numbers′ end (groups + 1)
         unfolding later
-        listing-more left′ e =
+        listing-more left′ watch′ waits stuck′ e t r =
             record {
               listed = s .listed ∪ group P k;
               before = s .before ++ (named k ∷ []);
@@ -179,6 +189,8 @@ module _ (P : Program) (n : ℕ) where
               order = first (s .order) .2;
               whole = whole-more P n (s .listed) k (s .whole);
               left-are = e ∙ ap₂ (λ (S U : Set). S ∖ U) (s .left-are) is ∙ fun-ext (λ A. apart (ltb (nameOf A) n) (s .listed (nameOf A)) (group P k (nameOf A)));
+              waiting =
+                  stuck-left P n (s .listed) watch′ waits stuck′ G (group P k) t r (λ j l g. ap (λ (S : Set). S j) (both-names (λ i. ltb i n && group P k i) is) ∙ and-intro _ _ (lt-ltb j n l) g);
               all = s .all ∙ ap (λ (l : List ℕ). s .before ++ map named l) rest-is ∙ sym (append-assoc (s .before) (named k ∷ []) (map named later));
               total = omega (arith, end-is, counts);
               places = end-is ∙ omega (arith, s .places, ap length (joined-more (s .before) (named k)), length-append (joined (s .before)) (named k));

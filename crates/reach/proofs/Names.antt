@@ -1,12 +1,13 @@
 -- Sets of names, as sets of literals that have both literals of each name. So the lowest name with both literals is the lowest name of the set.
 use mathlib.Core.Path.{_≡_, refl, sym, _∙_, ap, ap₂, subst, fun-ext}
+use mathlib.Core.Logic.{_⊎_, inl, inr}
 use mathlib.Core.Bool.{_&&_, _||_, and-self}
 use Prim.Native.Nat.{ℕ, _+_, _*_, _/_, _<_}
 use native.Mathlib.Decide.{decLt, ℕ-discrete}
 use native.Mathlib.Omega.{arith}
 use lib.Dec.{eqb, ltb}
 use borrow.Author.Tests.{eq-eqb, ne-eqb, lt-ltb, le-ltb, not-true}
-use Rattle.truth.proofs.Truth.{clash, refuted, and-l, and-r, and-intro, or-l, or-r}
+use Rattle.truth.proofs.Truth.{clash, decided, refuted, not-intro, and-l, and-r, and-intro, or-l, or-r}
 use Rattle.wfsx.specs.Sets.{Set, _∈_, _∉_, _⊆_, ∅, _∖_, add}
 use Rattle.wfsx.specs.Model.{Both}
 use Rattle.wfsx.specs.Reach.{nameOf, literalsOf}
@@ -54,10 +55,6 @@ double k = omega arith
 pub literal-in : (W : Set) {S : Set} → S ≡ literalsOf W → (k : ℕ) → S (2 * k) ≡ W k
 literal-in W e k = ap (λ (U : Set). U (2 * k)) e ∙ ap W (double k)
 
--- a set of names has one meaning
-pub names-one : (W U : Set) → literalsOf W ≡ literalsOf U → W ≡ U
-names-one W U e = fun-ext (λ k. sym (literal-in W refl k) ∙ literal-in U e k)
-
 pub both-names : (W : Set) {S : Set} → S ≡ literalsOf W → bothIn S ≡ W
 both-names W {S} e = fun-ext (λ k. let next : nameOf (2 * k + 1) ≡ k = omega arith in
     ap₂ _&&_ (literal-in W e k) (ap (λ (U : Set). U (2 * k + 1)) e ∙ ap W next) ∙ and-self (W k))
@@ -90,3 +87,13 @@ left-out j S U left e h = not-true (U (2 * j)) (and-r (S (2 * j)) _ (ap (λ (X :
 -- a name that is left is added
 pub name-falls : (j : ℕ) (S U left more : Set) → left ≡ S ∖ U → j ∈ bothIn left → U ⊆ more → 2 * j ∈ more → ((B : ℕ) → B ∈ more → B < capacity) → free more < free U
 name-falls j S U left more e low f has inside = grows U more (2 * j) f (left-out j S U left e low) has inside
+
+-- a name of S that is not left was taken away by one of its literals
+pub taken : (j : ℕ) (S U left : Set) → left ≡ S ∖ U → j ∈ bothIn S → j ∉ bothIn left → (A : ℕ) × (nameOf A ≡ j) × (A ∈ U)
+taken j S U left e h o = go (decided (U (2 * j))) (decided (U (2 * j + 1)))
+  where
+    go : (2 * j ∈ U) ⊎ (2 * j ∉ U) → (2 * j + 1 ∈ U) ⊎ (2 * j + 1 ∉ U) → (A : ℕ) × (nameOf A ≡ j) × (A ∈ U)
+    go (inl a) f = (2 * j, double j, a)
+    go (inr a) (inl b) = (2 * j + 1, omega arith, b)
+    go (inr a) (inr b) =
+        absurd (clash (and-intro _ _ (and-intro _ _ (and-l (S (2 * j)) _ h) (not-intro a)) (and-intro _ _ (and-r (S (2 * j)) _ h) (not-intro b))) (ap (λ (X : Set). bothIn X j) (sym e) ∙ o))

@@ -8,10 +8,11 @@ use lib.ListN.{length, drop, getD, set, replicate, length-take, length-drop, len
 use lib.Bits.{bitOr}
 use lib.Seq.{ext-getD, getD-take, getD-drop, getD-set-same, getD-set-other, set-set}
 use borrow.Author.Count.{below-none, below-more}
-use Rattle.wfsx.specs.Sets.{∅}
+use borrow.Author.Tests.{eq-eqb, ne-eqb}
+use Rattle.wfsx.specs.Sets.{Set, ∅, _∪_}
 use Rattle.litset.specs.Words.{nWords, setOf, with}
 use Rattle.litset.proofs.Words.{set-zeros, set-insert}
-use Rattle.reach.specs.Table.{nNames, tableSize, rowWords, rowSet, withName, Put}
+use Rattle.reach.specs.Table.{nNames, tableSize, rowWords, rowSet, pairedWord, withName, Put}
 use Rattle.reach.proofs.Names.{with-name-is}
 
 -- ---- the words of a row
@@ -165,3 +166,37 @@ pub name-put : (table : List ℕ) → length table ≡ tableSize → (k j : ℕ)
     (set table (nWords * k + j / 32) (bitOr (bitOr (getD table (nWords * k + j / 32) 0) (2 ^ (2 * (j % 32)))) (2 ^ (2 * (j % 32) + 1))))
 name-put table size k j h l =
     rw (← word-of table k (j / 32) (omega arith), ← pair-set (rowWords table k) (row-length table size k h) j l) (word-put table size k h (j / 32) _ (omega arith))
+
+-- a row with more in it
+pub more-put : (table : List ℕ) (k : ℕ) (more row union : Set) (after : List ℕ) → row ≡ rowSet table k → union ≡ row ∪ more → Put table k union after
+    → Put table k (rowSet table k ∪ more) after
+more-put table k more row union after r u put = record { size = put .size; here = put .here ∙ u ∙ ap (λ (S : Set). S ∪ more) r; others = put .others }
+
+-- ---- a set with both literals of a name, word by word
+
+-- the words before place i have those of name k
+pub record Paired (before : List ℕ) (k : ℕ) (words : List ℕ) (i : ℕ) : Type 0 where
+  pub size : length words ≡ nWords
+  pub done : (q : ℕ) → q < i → getD words q 0 ≡ pairedWord (getD before q 0) q k
+  pub rest : (q : ℕ) → i ≤ q → getD words q 0 ≡ getD before q 0
+
+module _ (before : List ℕ) (k : ℕ) where
+  pub paired-none : length before ≡ nWords → Paired before k before 0
+  paired-none e = record { size = e; done = below-none _; rest = λ q l. refl }
+
+  pub paired-more : (words : List ℕ) (i v : ℕ) → Paired before k words i → i < nWords → v ≡ pairedWord (getD words i 0) i k → Paired before k (set words i v) (i + 1)
+  paired-more words i v t h e =
+      record {
+        size = length-set words i v ∙ t .size;
+        done = below-more _ i (λ q l. getD-set-other words i q v 0 (λ x. omega arith) ∙ t .done q l)
+            (getD-set-same words i v 0 (omega (arith, t .size)) ∙ e ∙ ap (λ (w : ℕ). pairedWord w i k) (t .rest i (omega arith)));
+        rest = λ q l. getD-set-other words i q v 0 (λ x. omega arith) ∙ t .rest q (omega arith);
+      }
+
+  pub paired-all : (words : List ℕ) (i : ℕ) → Paired before k words i → length before ≡ nWords → nWords ≤ i → k < nNames → setOf words ≡ withName k (setOf before)
+  paired-all words i t size all h = ap setOf (ext-getD 0 words _ (t .size ∙ sym (length-set before (k / 32) _ ∙ size)) (λ q l. at q (omega (arith, t .size)) (ℕ-discrete q (k / 32)))) ∙ pair-set before size k h
+    where
+      at : (q : ℕ) → q < nWords → Dec (q ≡ k / 32)
+          → getD words q 0 ≡ getD (set before (k / 32) (bitOr (bitOr (getD before (k / 32) 0) (2 ^ (2 * (k % 32)))) (2 ^ (2 * (k % 32) + 1)))) q 0
+      at q b (yes e) = rw e (t .done (k / 32) (omega arith) ∙ rw (eq-eqb (k / 32) (k / 32) refl) (sym (getD-set-same before (k / 32) _ 0 (omega arith))))
+      at q b (no ne) = t .done q (omega arith) ∙ rw (ne-eqb q (k / 32) ne) (sym (getD-set-other before (k / 32) q _ 0 ne))

@@ -4,11 +4,12 @@ use mathlib.Core.Path.{_≡_}
 use mathlib.Core.Logic.{_⊎_}
 use mathlib.Core.Bool.{Bool, true, false, not, cond, _&&_, _||_}
 use mathlib.Core.List.{List, map}
-use Prim.Native.Nat.{ℕ, _+_, _*_, _/_, _≤_, _<_}
+use Prim.Native.Nat.{ℕ, _+_, _*_, _/_, _%_, _^_, _≤_, _<_}
 use lib.Dec.{eqb, ltb}
 use lib.ListN.{length, take, drop}
+use lib.Bits.{bitOr}
 use lib.Seq.{sets}
-use Rattle.wfsx.specs.Sets.{Set, _∈_, _∉_, _⊆_, ∅, _∪_, members}
+use Rattle.wfsx.specs.Sets.{Set, _∈_, _∉_, _⊆_, ∅, _∪_, _∖_, members}
 use Rattle.wfsx.specs.Program.{Program}
 use Rattle.wfsx.specs.Reach.{nameOf, bodyNames, reach, group, literalsOf}
 use Rattle.wfsx.specs.Groups.{MayCome}
@@ -36,6 +37,10 @@ only k j = eqb j k
 -- S with both literals of name k
 abbrev pub withName : ℕ → Set → Set
 withName k S A = eqb (nameOf A) k || S A
+
+-- word i of a set, with both literals of name k where they are of that word
+abbrev pub pairedWord : ℕ → ℕ → ℕ → ℕ
+pairedWord word i k = cond (eqb i (k / 32)) (bitOr (bitOr word (2 ^ (2 * (k % 32)))) (2 ^ (2 * (k % 32) + 1))) word
 
 -- the names with both literals in S
 abbrev pub bothIn : Set → Set
@@ -94,11 +99,11 @@ pub record Meeting (table : List ℕ) (k : ℕ) (U met : Set) : Type 0 where
   pub itself : k ∈ names
   pub each : (j : ℕ) → j ∈ names → (j ≡ k) ⊎ ((j ∈ U) × (2 * k ∈ rowSet table j))
 
--- these are all names of U, or there is one that does not reach k
+-- the lowest name of the set that is not among them does not reach k
 pub record Met (table : List ℕ) (k : ℕ) (among met : Set) : Type 0 where
   pub has : 2 * k ∈ met
-  pub is : (U : Set) → among ≡ literalsOf U
-      → (m : Meeting table k U met) × (((j : ℕ) → j ∈ U → j ∈ m .names) ⊎ ((j : ℕ) × (j ∈ U) × (2 * k ∉ rowSet table j)))
+  pub is : (U : Set) → among ≡ literalsOf U → Meeting table k U met
+  pub stops : (j : ℕ) → j ∈ bothIn (among ∖ met) → ((i : ℕ) → i < j → i ∉ bothIn (among ∖ met)) → 2 * k ∉ rowSet table j
 
 -- the names below n
 abbrev pub below : ℕ → Set
@@ -120,8 +125,25 @@ pub record Waiting (P : Program) (n : ℕ) (listed : Set) (table : List ℕ) (le
   pub groups : (i j : ℕ) → j ∈ listed → j ∈ group P i → i ∈ listed
   pub left-are : left ≡ literalsOf (unlistedBelow n listed)
 
-pub record NextBy (table : List ℕ) (left G : Set) : Type 0 where
-  pub is : (P : Program) (n : ℕ) (listed : Set) → Waiting P n listed table left → Next P n listed G
+-- the names in row j of `watch` reach j and it does not reach them; each of the names in `stuck` is in the row of a name that is left
+pub record Stuck (P : Program) (n : ℕ) (listed : Set) (watch : List ℕ) (stuck : Set) : Type 0 where
+  pub size : length watch ≡ tableSize
+  pub watched : (j A : ℕ) → j < n → A ∈ rowSet watch j → (j ∈ reach P (nameOf A)) × (nameOf A ∉ reach P j)
+  pub on : (A : ℕ) → A ∈ stuck → (j : ℕ) × (j < n) × (j ∉ listed) × (A ∈ rowSet watch j)
+
+-- names known to wait, as they were and as they are: more of them may be known
+pub record Noted (table : List ℕ) (left : Set) (watch : List ℕ) (stuck : Set) (watch′ : List ℕ) (stuck′ : Set) : Type 0 where
+  pub size : length watch′ ≡ length watch
+  pub by : (P : Program) (n : ℕ) (listed : Set) → Waiting P n listed table left → Stuck P n listed watch stuck → Stuck P n listed watch′ stuck′
+
+pub record NextBy (table : List ℕ) (left : Set) (watch : List ℕ) (stuck : Set) (watch′ : List ℕ) (stuck′ G : Set) : Type 0 where
+  pub noted : Noted table left watch stuck watch′ stuck′
+  pub is : (P : Program) (n : ℕ) (listed : Set) → Waiting P n listed table left → Stuck P n listed watch stuck → Next P n listed G
+
+-- of the names in `stuck` those that stay are in no row of a name of the group
+pub record Released (watch : List ℕ) (G stuck stuck′ : Set) : Type 0 where
+  pub stay : stuck′ ⊆ stuck
+  pub apart : (j A : ℕ) → j ∈ bothIn G → A ∈ stuck′ → A ∉ rowSet watch j
 
 -- the names of a group fit into two tables at the places from `at` on
 pub record PutFits (S : Set) (number at : ℕ) (name numbers : List ℕ) : Type 0 where

@@ -10,7 +10,7 @@ ghost use Rattle.litset.specs.Words.{setOf};
 ghost use Rattle.book.specs.Limits.{maxNames};
 ghost use Rattle.book.specs.Book.{clamp, entryIs, headAt, bodyOf, rulesIn, rulesOf};
 ghost use Rattle.reach.specs.Order.{orderTable};
-ghost use Rattle.reach.specs.Table.{nNames, tableSize, rowWords, rowSet, withName, bothIn, Put, Rows, WholeRows, ReachedBy, settledWith, Completed, TurnOf, SweptBy, Met, below, NextBy, PutFits, PutNames};
+ghost use Rattle.reach.specs.Table.{nNames, tableSize, rowWords, rowSet, pairedWord, withName, bothIn, Put, Rows, WholeRows, ReachedBy, settledWith, Completed, TurnOf, SweptBy, Met, below, NextBy, Released, PutFits, PutNames};
 use book::Book;
 use book::Entry;
 use litset::Clash;
@@ -61,11 +61,30 @@ fn clamped(names: usize) -> usize
 
 // ---- sets of names, and tables of them
 
+// Word i of a set, with both literals of name k where they are of that word.
+fn with_pair(word: u64, i: usize, k: usize) -> u64
+    ensures { λ r. ⌜ r ≡ pairedWord word i k ⌝ }
+{
+    if i == k / 32 {
+        let at = 2 * (k % 32);
+        return word | (1u64 << at) | (1u64 << (at + 1));
+    }
+    word
+}
+
+// The set with name k. Every word is looked at, so that none is stored at a place that is known only when it runs: a set that is read whole right after such a
+// store has to wait for it.
 fn with_name(s: LitSet, k: usize) -> LitSet
     requires { ⌜ k < nNames ⌝ }
     ensures { λ r. ⌜ setOf (r .words) ≡ withName k (setOf (s .words)) ⌝ }
 {
-    litset::insert(litset::insert(s, 2 * k), 2 * k + 1)
+    let mut t = s;
+    let mut i: usize = 0;
+    while i < WORDS {
+        t.words[i] = with_pair(t.words[i], i, k);
+        i += 1;
+    }
+    t
 }
 
 fn names_below(names: usize) -> LitSet
@@ -103,6 +122,15 @@ fn put_row(table: &mut [u64], k: usize, row: LitSet)
         table[WORDS * k + i] = row.words[i];
         i += 1;
     }
+}
+
+// Row k with the names of a set added.
+fn add_set(table: &mut [u64], k: usize, s: LitSet)
+    requires { ⌜ (length (now table) ≡ tableSize) × (k < nNames) ⌝ }
+    ensures { λ r. ⌜ Put (now (table .entry)) k (rowSet (now (table .entry)) k ∪ setOf (s .words)) (now (table .exit)) ⌝ }
+{
+    let row = litset::union(row_at(table, k), s);
+    put_row(table, k, row);
 }
 
 // ---- what each name reaches
@@ -283,26 +311,64 @@ fn meet(table: &[u64], among: LitSet, k: usize) -> LitSet
     }
 }
 
-// The group that comes next, of those whose names are left; empty where there is none. Of the names left that a name reaches all must be of its group.
-// Names of a group that may not come are passed over together.
-fn next_group(table: &[u64], left: LitSet) -> LitSet
-    requires { ⌜ length (now table) ≡ tableSize ⌝ }
-    ensures { λ r. ⌜ NextBy (now (table .entry)) (setOf (left .words)) (setOf (r .words)) ⌝ }
+// The group that comes next, empty where there is none, and names known to wait.
+struct NextGroup {
+    group: LitSet,
+    stuck: LitSet,
+}
+
+// The group that comes next, of those whose names are left. Of the names left that a name reaches all must be of its group. Names of a group that may not
+// come are passed over together, and noted in the row of a name they wait for: until that one is listed they need not be tried again.
+fn next_group(table: &[u64], left: LitSet, stuck: LitSet, watch: &mut [u64]) -> NextGroup
+    requires { ⌜ (length (now table) ≡ tableSize) × (length (now watch) ≡ tableSize) ⌝ }
+    ensures { λ r. ⌜ NextBy (now (table .entry)) (setOf (left .words)) (now (watch .entry)) (setOf (stuck .words))
+        (now (watch .exit)) (setOf (r .stuck .words)) (setOf (r .group .words)) ⌝ }
 {
-    let mut out = litset::empty();
+    let mut out = stuck;
     loop {
         match litset::lowest_both(litset::difference(left, out)) {
             Clash::None => {
-                return litset::empty();
+                return NextGroup {
+                    group: litset::empty(),
+                    stuck: out,
+                };
             }
             Clash::Name(k) => {
                 let row = row_at(table, k);
                 let among = litset::difference(row, litset::difference(row, left));
                 let met = meet(table, among, k);
-                if litset::equal(met, among) {
-                    return met;
+                match litset::lowest_both(litset::difference(among, met)) {
+                    Clash::None => {
+                        return NextGroup {
+                            group: met,
+                            stuck: out,
+                        };
+                    }
+                    Clash::Name(j) => {
+                        add_set(watch, j, met);
+                        out = litset::union(out, met);
+                    }
                 }
-                out = litset::union(out, met);
+            }
+        }
+    }
+}
+
+// The names known to wait for a name that is left, once a group is listed: those without the names that wait for one of the group.
+fn release(watch: &[u64], stuck: LitSet, group: LitSet) -> LitSet
+    requires { ⌜ length (now watch) ≡ tableSize ⌝ }
+    ensures { λ r. ⌜ Released (now (watch .entry)) (setOf (group .words)) (setOf (stuck .words)) (setOf (r .words)) ⌝ }
+{
+    let mut out = stuck;
+    let mut done = litset::empty();
+    loop {
+        match litset::lowest_both(litset::difference(group, done)) {
+            Clash::None => {
+                return out;
+            }
+            Clash::Name(j) => {
+                out = litset::difference(out, row_at(watch, j));
+                done = with_name(done, j);
             }
         }
     }
@@ -353,11 +419,13 @@ fn order_in<'a>(
     let mut name = [0u16; book::MAX_NAMES];
     let mut group = [0u16; book::MAX_NAMES];
     let mut left = names_below(names);
+    let mut watch = [0u64; TABLE];
+    let mut stuck = litset::empty();
     let mut at: usize = 0;
     let mut groups: usize = 0;
     loop {
-        let next = next_group(&table, left);
-        if litset::equal(next, litset::empty()) {
+        let next = next_group(&table, left, stuck, &mut watch);
+        if litset::equal(next.group, litset::empty()) {
             return Order {
                 names,
                 groups,
@@ -365,8 +433,9 @@ fn order_in<'a>(
                 group,
             };
         }
-        at = put_names(next, groups, at, &mut name, &mut group);
-        left = litset::difference(left, next);
+        at = put_names(next.group, groups, at, &mut name, &mut group);
+        left = litset::difference(left, next.group);
+        stuck = release(&watch, next.stuck, next.group);
         groups += 1;
     }
 }

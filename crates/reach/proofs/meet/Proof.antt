@@ -64,7 +64,7 @@ contains-requires c κs = search needs
 
 returns-2 : tie.Need-returns-2 Inv-loop μ-loop
 returns-2 c =
-    gathered-stop _ _ _ _ _ (c .before .before .before .before .before .before .before .before .loop .inv) (c .before .before .before .before .before .before .before .difference .ensures) _ (lowest (c .before .before .before .before .before .before) _ (c .before .before .before .before .j .given .1) .0)
+    gathered-stop _ _ _ _ _ (c .before .before .before .before .before .before .before .before .loop .inv) (c .before .before .before .before .before .before .before .difference .ensures) _ (lowest (c .before .before .before .before .before .before) _ (c .before .before .before .before .j .given .1))
     (sym (row-says (c .before)) ∙ not-true _ (c .if1 .taken))
 
 with-name-requires-2 : tie.Need-with-name-requires-2 Inv-loop μ-loop
