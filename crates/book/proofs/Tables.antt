@@ -45,6 +45,10 @@ pub joined-none : joined [] ≡ []
 unfolding joined
 joined-none = refl
 
+pub joined-first : (x : List ℕ) (xs : List (List ℕ)) → joined (x ∷ xs) ≡ x ++ joined xs
+unfolding joined
+joined-first x xs = refl
+
 pub joined-more : (xs : List (List ℕ)) (y : List ℕ) → joined (xs ++ (y ∷ [])) ≡ joined xs ++ y
 unfolding joined
 joined-more [] y = append-nil y

@@ -5,16 +5,16 @@ use mathlib.Core.Bool.{Bool, true, false, true≢false}
 use mathlib.Core.List.{List}
 use Prim.Native.Nat.{ℕ, _≤_}
 use lib.ListN.{length}
-use Rattle.wfsx.specs.Sets.{Set, ∅, members}
+use Rattle.wfsx.specs.Sets.{Set, ∅}
 use Rattle.wfsx.specs.Model.{M, N}
 use Rattle.wfsx.specs.Groups.{leaders}
-use Rattle.wfsx.proofs.Order.{in-order, order-facts, order-is}
-use Rattle.litset.specs.Words.{capacity, clashIn}
+use Rattle.wfsx.proofs.Order.{in-order, order-is}
+use Rattle.litset.specs.Words.{clashIn}
 use Rattle.litset.specs.declared.Clash.{Clash}
 use Rattle.litset.specs.declared.Clash.the-variants as clash
 use Rattle.fixpoint.proofs.Published.{no-clash, clash-name}
 use Rattle.reach.specs.Order.{orderTable}
-use Rattle.lesson.specs.State.{BookState, unloaded, loaded-with, State, itsRules, noneLoaded, inForce, inBook, programIn, listingIn, Said, gives, acknowledged, isClash, modelSays, orderIn, bufferAfter}
+use Rattle.lesson.specs.State.{BookState, unloaded, loaded-with, State, noneLoaded, inBook, programIn, listingIn, Said, gives, acknowledged, isClash, modelSays, orderIn, bufferAfter}
 use Rattle.lesson.specs.Calls.{shelfOf, truthsOf, nonfalseOf, GivesModel, GivesOrder, GivesGroups, listingSaid, Lists, bytesOf}
 use Rattle.lesson.specs.Conditions.{NoBook}
 use Rattle.lesson.specs.declared.ModelReply.{ModelReply}
@@ -22,6 +22,7 @@ use Rattle.lesson.specs.declared.OrderReply.{OrderReply}
 use Rattle.lesson.specs.declared.GroupsReply.{GroupsReply}
 use Rattle.lesson.specs.declared.ListingAnswer.{ListingAnswer}
 use Rattle.lesson.proofs.Order.{given-same, loaded-says}
+use Rattle.lesson.proofs.Meaning.{order-of-program}
 use Rattle.lesson.proofs.WithBook.{model-loaded, part-loaded, listing-fits, listing-short}
 use Rattle.lesson.proofs.Sound.{Sound, heads-in-book, heads-in-room, rounds-in-room}
 use Rattle.lesson.proofs.Replies.{bytes-most}
@@ -76,7 +77,6 @@ module _ (cs : List Call) (start k : Desk) (f : Fresh start) (run : Run start cs
 
   -- every working order of a run is that of the list's program, in which facts alter nothing
   pub order-due : (r : OrderReply) → GivesOrder (k .shelf) r → OrderDue (left cs) r
-  unfolding programIn orderIn
   order-due r h =
       let P = programIn (left cs) in
       let n = nameCount (left cs) in
@@ -85,7 +85,7 @@ module _ (cs : List Call) (start k : Desk) (f : Fresh start) (run : Run start cs
         ones = leaders P n;
         in-order = in-order P n;
         table = h .table ∙ ap (λ (d : State). orderTable (orderIn (d .book))) (left-means cs start k f run)
-            ∙ ap orderTable (sym (order-facts (itsRules (left cs .book)) (members capacity (inForce (left cs .own))) n) ∙ order-is P n);
+            ∙ ap orderTable (order-of-program (left cs) ∙ order-is P n);
       }
 
   -- every model by groups of a run is M and N of the list's program

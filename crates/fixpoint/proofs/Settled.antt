@@ -4,21 +4,22 @@ use mathlib.Core.Path.{_≡_, sym, _∙_, ap}
 use mathlib.Core.Logic.{⊎-elim}
 use mathlib.Core.Bool.{Bool, false≢true, _||_, or-assoc}
 use mathlib.Core.List.{List}
-use Prim.Native.Nat.{ℕ, _<_}
+use Prim.Native.Nat.{ℕ, suc, _<_}
 use native.Mathlib.Nat.{le-of-eq}
 use Rattle.truth.proofs.Truth.{or-elim, or-r}
 use Rattle.wfsx.specs.Sets.{Set, _∈_, _⊆_, ∅, _∪_}
 use Rattle.wfsx.specs.Program.{Entry, Rule, Program}
-use Rattle.wfsx.specs.Model.{holds, supported, Γ, Γs, I, M}
+use Rattle.wfsx.specs.Model.{holds, supported, Γ, Γs, M}
 use Rattle.wfsx.specs.Rounds.{rounds}
-use Rattle.wfsx.specs.Groups.{roundOf, given, leastOf, step}
+use Rattle.wfsx.specs.Groups.{roundOf, given, leastOf}
+use Rattle.wfsx.specs.Groups as groups
 use Rattle.wfsx.proofs.Sets.{⊆-antisym}
 use Rattle.wfsx.proofs.Chain.{chain-within}
 use Rattle.wfsx.proofs.Parts.{Γ-same, Γs-same}
 use Rattle.wfsx.proofs.Facts.{supported-facts}
 use Rattle.wfsx.proofs.Operators.{Γ-fixed, N-is}
 use Rattle.wfsx.proofs.Rounds.{rounds-only, M-from-rounds}
-use Rattle.wfsx.proofs.Steps.{round-monotone, least-fixed, least-inside, least-same}
+use Rattle.wfsx.proofs.Steps.{round-monotone, least-fixed, least-inside, I-rounds, step-is, least-same}
 use Rattle.litset.specs.Words.{capacity, setOf}
 use Rattle.book.specs.Book.{program}
 use Rattle.fixpoint.specs.Pass.{SettledFrom}
@@ -32,14 +33,18 @@ pub starts-empty : {X : Set} → X ≡ ∅ → (U : Set) → X ⊆ U
 starts-empty e U A a = absurd (false≢true (rw e at a))
 
 pub model-settled : (P : Program) (m : Model) → SettledFrom P P ∅ m → ModelOf P m
-unfolding I
 model-settled P m s = record { truths = truths; nonfalse = s .nonfalse ∙ ap (Γs P) truths ∙ sym (N-is P); rounds = least }
   where
     least : m .rounds ≡ rounds P
-    least = rounds-only P (m .rounds) (record { still = sym (s .reached) ∙ s .still ∙ ap (roundOf P P) (s .reached); least = s .first })
+    least =
+        rounds-only P (m .rounds)
+        (record {
+          still = I-rounds P (m .rounds) ∙ sym (s .reached) ∙ s .still ∙ ap (roundOf P P) (s .reached) ∙ sym (I-rounds P (suc (m .rounds)));
+          least = λ j h. s .first j (sym (I-rounds P j) ∙ h ∙ I-rounds P (suc j));
+        })
 
     truths : setOf (m .truths .words) ≡ M P
-    truths = s .reached ∙ M-from-rounds P (m .rounds) (le-of-eq (sym least))
+    truths = s .reached ∙ sym (I-rounds P (m .rounds)) ∙ M-from-rounds P (m .rounds) (le-of-eq (sym least))
 
 -- ---- facts
 
@@ -79,7 +84,6 @@ module _ (rules : List Rule) (F : Set) (small : Small F) (v : Values) (m-small :
   -- K counts as facts in Γ, O in Γs
   pub step-settled : {K O : Set} → K ≡ F ∪ setOf (v .truths .words) → O ≡ F ∪ setOf (v .nonfalse .words) → (m : Model)
       → SettledFrom (program rules K) (program rules O) K m → StepOf (program rules F) v (record { truths = m .truths; nonfalse = m .nonfalse })
-  unfolding step
   step-settled {K} {O} k o m s =
       let T = setOf (v .truths .words) in
       let U = setOf (v .nonfalse .words) in
@@ -88,6 +92,10 @@ module _ (rules : List Rule) (F : Set) (small : Small F) (v : Values) (m-small :
       let t : SettledFrom P Q (F ∪ T) m = rw (k, o) at s in
       let least : setOf (m .truths .words) ≡ leastOf P Q =
       least-settled P Q (F ∪ T) m (λ A a. rw (least-fixed P Q) (facts-inside rules (F ∪ T) (joint-small rules F small T m-small) (Γs Q (leastOf P Q)) A a)) t in
-      let same : setOf (m .truths .words) ≡ step capacity (program rules F) (valuesOf v) .truths =
+      let is = step-is capacity (program rules F) (valuesOf v) in
+      let same : setOf (m .truths .words) ≡ leastOf (given capacity T (program rules F)) (given capacity U (program rules F)) =
       least ∙ least-same P (given capacity T (program rules F)) Q (given capacity U (program rules F)) (given-Γ rules F small T m-small) (given-Γs rules F small U n-small) in
-      record { truths = same; nonfalse = t .nonfalse ∙ ap (Γs Q) same ∙ given-Γs rules F small U n-small (step capacity (program rules F) (valuesOf v) .truths) }
+      record {
+        truths = same ∙ ap (λ (w : groups.Values). w .truths) (sym is);
+        nonfalse = t .nonfalse ∙ ap (Γs Q) same ∙ given-Γs rules F small U n-small _ ∙ ap (λ (w : groups.Values). w .nonfalse) (sym is);
+      }

@@ -19,6 +19,8 @@ use Rattle.wfsx.proofs.Going.{RulesOf, Going, going-start, going-more, going-pa
 use Rattle.litset.specs.Words.{capacity, room}
 use Rattle.book.specs.Book.{joined}
 use Rattle.reach.specs.Order.{numbered}
+use Rattle.reach.proofs.Places.{numbered-none, numbered-first}
+use Rattle.book.proofs.Tables.{joined-none, joined-first}
 use Rattle.groups.specs.Parts.{alike}
 use Rattle.groups.proofs.Names.{alike-none, alike-more, alike-other}
 
@@ -29,10 +31,9 @@ some-place [] m = absurd (List·Memᴰ·not-nil m)
 some-place (x ∷ l) m = omega arith
 
 later-other : (i j : ℕ) (gs : List (List ℕ)) → i < j → alike i (numbered j gs) ≡ 0
-unfolding numbered
-later-other i j [] h = alike-none i
-later-other i j ([] ∷ gs) h = later-other i (suc j) gs (omega arith)
-later-other i j ((x ∷ g) ∷ gs) h = alike-other i j (map (λ _. j) g ++ numbered (suc j) gs) (λ e. omega arith)
+later-other i j [] h = rw (numbered-none j) (alike-none i)
+later-other i j ([] ∷ gs) h = rw (numbered-first j [] gs) (later-other i (suc j) gs (omega arith))
+later-other i j ((x ∷ g) ∷ gs) h = rw (numbered-first j (x ∷ g) gs) (alike-other i j (map (λ _. j) g ++ numbered (suc j) gs) (λ e. omega arith))
 
 run-alike : (i : ℕ) (g ys : List ℕ) → alike i ys ≡ 0 → alike i (map (λ _. i) g ++ ys) ≡ length g
 run-alike i [] ys e = e
@@ -43,18 +44,10 @@ first-number i [] ys h = absurd (omega arith)
 first-number i (x ∷ g) ys h = refl
 
 module _ (i : ℕ) (g : List ℕ) (gs : List (List ℕ)) where
-  joined-first : joined (g ∷ gs) ≡ g ++ joined gs
-  unfolding joined
-  joined-first = refl
-
-  numbered-first : numbered i (g ∷ gs) ≡ map (λ _. i) g ++ numbered (suc i) gs
-  unfolding numbered
-  numbered-first = refl
-
   -- a table's rest that begins with a group ends it where the number changes
   group-ends : (numbers : List ℕ) (p : ℕ) → 0 < length g → drop p numbers ≡ numbered i (g ∷ gs) → alike (getD numbers p 0) (drop p numbers) ≡ length g
   group-ends numbers p some e =
-      let rest : drop p numbers ≡ map (λ _. i) g ++ numbered (suc i) gs = e ∙ numbered-first in
+      let rest : drop p numbers ≡ map (λ _. i) g ++ numbered (suc i) gs = e ∙ numbered-first i g gs in
       let here : getD numbers p 0 ≡ i =
       ap (λ (k : ℕ). getD numbers k 0) (sym (add-zero p)) ∙ sym (getD-drop p numbers 0 0) ∙ ap (λ (l : List ℕ). getD l 0 0) rest ∙ first-number i g (numbered (suc i) gs) some in
       ap₂ (λ (x : ℕ) (l : List ℕ). alike x l) here rest ∙ run-alike i g (numbered (suc i) gs) (later-other i (suc i) gs (omega arith))
@@ -107,7 +100,6 @@ module _ (P : Program) (n : ℕ) (named : (r : Rule) → r isIn P → nameFor r 
 
   module _ {name numbers : List ℕ} {p : ℕ} {v : Values} (l : Left name numbers p v) where
     pub turn : {end : ℕ} → p < length name → end ≡ p + alike (getD numbers p 0) (drop p numbers) → Turn name numbers p end v
-    unfolding joined
     turn {end} more e = go (l .listed) (l .ks) (l .order) (l .names-left) (l .numbers-left) (l .going)
       where
         left : length (drop p name) ≡ length name - p
@@ -115,11 +107,11 @@ module _ (P : Program) (n : ℕ) (named : (r : Rule) → r isIn P → nameFor r 
 
         go : (listed : Set) (ks : List ℕ) → InOrder P n listed ks → drop p name ≡ joined (groupsOf ks) → drop p numbers ≡ numbered (l .i) (groupsOf ks) → Going P n named listed v
             → Turn name numbers p end v
-        go listed [] o a b g = absurd (omega (arith, left, ap length a))
+        go listed [] o a b g = absurd (omega (arith, left, ap length (a ∙ joined-none)))
         go listed (k ∷ ks) (comes-next c low o) a b g =
             let G = members n (group P k) in
             let some = some-name c in
-            let here = a ∙ joined-first (l .i) G (groupsOf ks) in
+            let here = a ∙ joined-first G (groupsOf ks) in
             let there = b ∙ numbered-first (l .i) G (groupsOf ks) in
             let size : end ≡ p + length G = e ∙ ap (λ (x : ℕ). p + x) (group-ends (l .i) G (groupsOf ks) numbers p some b) in
             let part : end - p ≡ length G = omega arith in
@@ -149,7 +141,7 @@ module _ (P : Program) (n : ℕ) (named : (r : Rule) → r isIn P → nameFor r 
         go : (listed : Set) (ks : List ℕ) → InOrder P n listed ks → drop p name ≡ joined (groupsOf ks) → Going P n named listed v → (v .truths ≡ M P) × (v .nonfalse ≡ N P)
         go listed [] (all-listed f) a g = going-end P n named v g f
         go listed (k ∷ ks) (comes-next c low o) a g =
-            absurd (omega (arith, none, ap length (a ∙ joined-first 0 (members n (group P k)) (groupsOf ks)), length-append (members n (group P k)) (joined (groupsOf ks)), some-name c))
+            absurd (omega (arith, none, ap length (a ∙ joined-first (members n (group P k)) (groupsOf ks)), length-append (members n (group P k)) (joined (groupsOf ks)), some-name c))
 
   -- the group's values, by a step or where it has no rules by doing nothing
   pub left-more : {name numbers : List ℕ} {p end : ℕ} {v : Values} (t : Turn name numbers p end v) (G : Program) → Heads⊆ P room → RulesOf P (group P (t .k)) G → (w : Values)

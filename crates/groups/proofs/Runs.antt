@@ -3,7 +3,7 @@
 use mathlib.Core.Path.{_≡_, refl, sym, _∙_, ap, ap₂}
 use mathlib.Core.Logic.{_⊎_, inl, inr, _↔_}
 use mathlib.Core.Bool.{Bool, true, false, cond}
-use mathlib.Core.List.{List, [], _∷_, _++_, append-assoc, append-nil, List·Memᴰ·head, List·Memᴰ·tail, List·Memᴰ·not-nil, List·Memᴰ·append-cases, Memᴰ·append-left, Memᴰ·append-right}
+use mathlib.Core.List.{List, map, [], _∷_, _++_, append-assoc, append-nil, List·Memᴰ·head, List·Memᴰ·tail, List·Memᴰ·not-nil, List·Memᴰ·append-cases, Memᴰ·append-left, Memᴰ·append-right}
 use Prim.Native.Nat.{ℕ, zero, suc, _+_, _-_, _*_, _/_, _≤_, _<_}
 use native.Mathlib.Numerals.{add-one}
 use native.Mathlib.Decide.{ℕ-discrete}
@@ -13,10 +13,11 @@ use lib.Seq.{take-add, drop-drop, drop-cons, take-suc-set}
 use Rattle.wfsx.specs.Sets.{Set, _isIn_, membersFrom, members}
 use Rattle.wfsx.proofs.Members.{members-none, members-first, members-are}
 use Rattle.book.specs.Limits.{maxNames, maxRules}
-use Rattle.book.specs.Book.{joined, headAt}
+use Rattle.book.specs.Book.{headAt}
 use Rattle.book.proofs.Back.{getD-in}
 use Rattle.book.proofs.Parts.{part-step, part-end}
 use Rattle.index.specs.Index.{rulesWith, headStarts, headRules}
+use Rattle.book.proofs.Tables.{joined-none, joined-first}
 use Rattle.index.proofs.Indexed.{with-head, startOf, head-rules-length, start-most, start-next, rules-of}
 use Rattle.groups.specs.Parts.{runOf, runsOf, RunsFit, Copied}
 
@@ -24,17 +25,14 @@ use Rattle.groups.specs.Parts.{runOf, runsOf, RunsFit, Copied}
 
 module _ (first rules : List ℕ) where
   pub runs-none : runsOf first rules [] ≡ []
-  unfolding joined
-  runs-none = refl
+  runs-none = joined-none
 
   pub runs-first : (k : ℕ) (ks : List ℕ) → runsOf first rules (k ∷ ks) ≡ runOf first rules k ++ runsOf first rules ks
-  unfolding joined
-  runs-first k ks = refl
+  runs-first k ks = joined-first (runOf first rules k) (map (runOf first rules) ks)
 
   pub runs-elim : (ks : List ℕ) (j : ℕ) → j isIn runsOf first rules ks → (k : ℕ) × k isIn ks × j isIn runOf first rules k
-  unfolding joined
-  runs-elim [] j m = absurd (List·Memᴰ·not-nil m)
-  runs-elim (k ∷ ks) j m = go (List·Memᴰ·append-cases (runOf first rules k) m) (runs-elim ks j)
+  runs-elim [] j m = absurd (List·Memᴰ·not-nil (rw runs-none at m))
+  runs-elim (k ∷ ks) j m = go (List·Memᴰ·append-cases (runOf first rules k) (rw (runs-first k ks) at m)) (runs-elim ks j)
     where
       go : (j isIn runOf first rules k) ⊎ (j isIn runsOf first rules ks) → (j isIn runsOf first rules ks → (i : ℕ) × i isIn ks × j isIn runOf first rules i)
           → (i : ℕ) × i isIn k ∷ ks × j isIn runOf first rules i
@@ -42,9 +40,8 @@ module _ (first rules : List ℕ) where
       go (inr i) rest = let w = rest i in (w .0, List·Memᴰ·tail (w .1), w .2)
 
   pub runs-intro : (ks : List ℕ) (k j : ℕ) → k isIn ks → j isIn runOf first rules k → j isIn runsOf first rules ks
-  unfolding joined
-  runs-intro (i ∷ ks) k j (List·Memᴰ·head e) m = Memᴰ·append-left (runsOf first rules ks) (rw e at m)
-  runs-intro (i ∷ ks) k j (List·Memᴰ·tail h) m = Memᴰ·append-right (runOf first rules i) (runs-intro ks k j h m)
+  runs-intro (i ∷ ks) k j (List·Memᴰ·head e) m = rw (runs-first i ks) (Memᴰ·append-left (runsOf first rules ks) (rw e at m))
+  runs-intro (i ∷ ks) k j (List·Memᴰ·tail h) m = rw (runs-first i ks) (Memᴰ·append-right (runOf first rules i) (runs-intro ks k j h m))
 
 -- ---- the index of a table of heads
 

@@ -1,14 +1,11 @@
 -- The tables of a book: the index has its rules, and the places of the table of its working order are the names of the groups, one group behind another.
-use mathlib.Core.Path.{_≡_, refl, _∙_, ap}
-use mathlib.Core.List.{List}
-use Prim.Native.Nat.{ℕ, _-_, _≤_}
-use native.Mathlib.Omega.{arith}
-use lib.ListN.{length, take, replicate, length-append}
-use lib.Seq.{take-at}
+use mathlib.Core.Path.{_≡_, _∙_, ap}
+use Prim.Native.Nat.{ℕ, _-_}
+use lib.ListN.{take}
 use Rattle.wfsx.specs.Sets.{Set}
 use Rattle.wfsx.specs.Groups.{workingOrder}
 use Rattle.book.specs.Limits.{maxNames, maxRules}
-use Rattle.book.specs.Book.{clamp, rulesOf, programOf, padded, joined}
+use Rattle.book.specs.Book.{clamp, rulesOf, programOf, joined}
 use Rattle.book.specs.declared.Book.{Book}
 use Rattle.book.proofs.Heads.{program-of}
 use Rattle.book.proofs.Counts.{clamp-most, clamp-least}
@@ -16,32 +13,10 @@ use Rattle.index.specs.Index.{indexOf}
 use Rattle.index.specs.declared.Index.{Index}
 use Rattle.reach.specs.Order.{numbered, orderTable}
 use Rattle.reach.specs.declared.Order.{Order}
-use Rattle.reach.proofs.Listing.{numbered-length}
+use Rattle.reach.proofs.Places.{order-names, order-groups}
 use Rattle.fixpoint.specs.declared.Values.{Values}
 use Rattle.groups.specs.Whole.{WholeOf}
 use Rattle.groups.specs.Parts.{UsedBelow, Laid, ByGroups}
-
--- ---- the table of an order
-
-padded-has : (n : ℕ) (xs : List ℕ) → length xs ≤ length (padded n xs)
-padded-has n xs = omega (arith, length-append xs (replicate (n - length xs) 0))
-
-module _ {o : Order} (gs : List (List ℕ)) (is : o ≡ orderTable gs) where
-  pub names-inside : o .names ≤ length (o .name)
-  unfolding orderTable
-  names-inside = rw is (padded-has maxNames (joined gs))
-
-  pub groups-inside : o .names ≤ length (o .group)
-  unfolding orderTable
-  groups-inside = rw is (omega (arith, padded-has maxNames (numbered 0 gs), numbered-length 0 gs))
-
-  order-names : take (o .names) (o .name) ≡ joined gs
-  unfolding orderTable
-  order-names = rw is (take-at (joined gs) (replicate (maxNames - length (joined gs)) 0) (length (joined gs)) refl)
-
-  order-groups : take (o .names) (o .group) ≡ numbered 0 gs
-  unfolding orderTable
-  order-groups = rw is (take-at (numbered 0 gs) (replicate (maxNames - length (numbered 0 gs)) 0) (length (joined gs)) (numbered-length 0 gs))
 
 -- ---- a book
 

@@ -6,14 +6,16 @@ use native.Mathlib.Omega.{arith}
 use lib.Dec.{eqb, ltb}
 use lib.ListN.{length}
 use borrow.Author.Tests.{eq-eqb, ne-eqb, ltb-true, lt-ltb, le-ltb}
-use Rattle.wfsx.specs.Sets.{_∈_}
+use Rattle.wfsx.specs.Sets.{_∈_, members}
+use Rattle.wfsx.specs.Groups.{workingOrder}
+use Rattle.wfsx.proofs.Order.{order-facts}
 use Rattle.litset.specs.Words.{capacity}
 use Rattle.book.specs.Limits.{maxNames}
 use Rattle.book.specs.Book.{clamp, namesOf, rulesOf, program, programOf}
 use Rattle.book.proofs.Counts.{clamp-most}
 use Rattle.book.proofs.Heads.{program-of}
 use Rattle.book.proofs.Names.{names-counted}
-use Rattle.lesson.specs.State.{BookState, unloaded, loaded-with, Own, inForce, noneLoaded, inBook, itsNames, itsRules, programIn}
+use Rattle.lesson.specs.State.{BookState, unloaded, loaded-with, Own, State, inForce, noneLoaded, inBook, itsNames, itsRules, programIn, orderIn}
 use Rattle.lesson.specs.Calls.{shelfOf}
 use Rattle.lesson.specs.declared.Shelf.{Shelf}
 
@@ -63,3 +65,8 @@ module _ (s : Shelf) where
       go false h =
           let i = ltb-true A (2 * length (namesOf (s .book))) h in
           omega (arith, names-counted (s .book), clamp-most maxNames (s .book .names))
+
+-- facts alter nothing of the working order
+pub order-of-program : (d : State) → orderIn (d .book) ≡ workingOrder (programIn d) (length (itsNames (d .book)))
+unfolding orderIn programIn
+order-of-program d = sym (order-facts (itsRules (d .book)) (members capacity (inForce (d .own))) (length (itsNames (d .book))))

@@ -6,3 +6,4 @@ pub mod Closure
 pub mod Waiting
 pub mod Placing
 pub mod Listing
+pub mod Places

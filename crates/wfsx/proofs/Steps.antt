@@ -39,6 +39,16 @@ module _ (P Q : Program) where
   rounds-inside : (k : ℕ) → iterate (roundOf P Q) ∅ k ⊆ leastOf P Q
   rounds-inside = chain-inside (roundOf P Q) round-monotone (leastOf P Q) (λ A a. rw least-fixed a)
 
+-- I(k) is where rounds of P with itself lead from nothing
+pub I-rounds : (P : Program) (k : ℕ) → I P k ≡ iterate (roundOf P P) ∅ k
+unfolding I
+I-rounds P k = refl
+
+pub step-is : (b : ℕ) (G : Program) (v : Values) → step b G v
+    ≡ record { truths = leastOf (given b (v .truths) G) (given b (v .nonfalse) G); nonfalse = Γs (given b (v .nonfalse) G) (leastOf (given b (v .truths) G) (given b (v .nonfalse) G)) }
+unfolding step
+step-is b G v = refl
+
 -- the least fixpoint comes from what the two operators give, whatever the programs
 pub least-same : (P P′ Q Q′ : Program) → ((S : Set) → Γ P S ≡ Γ P′ S) → ((S : Set) → Γs Q S ≡ Γs Q′ S) → leastOf P Q ≡ leastOf P′ Q′
 least-same P P′ Q Q′ p q = ⊆-antisym (one P P′ Q Q′ p q) (one P′ P Q′ Q (λ S. sym (p S)) (λ S. sym (q S)))

@@ -1,7 +1,8 @@
 -- `model_by_groups`: the tables of the index and of the working order are those of the book, and every name with a rule or a fact is listed.
 use mathlib.Core.Path.{sym}
 use lib.Seq.{length-take-le}
-use Rattle.groups.proofs.Tables.{names-inside, groups-inside, book-laid, book-whole}
+use Rattle.reach.proofs.Places.{names-inside, groups-inside}
+use Rattle.groups.proofs.Tables.{book-laid, book-whole}
 use borrow.Author.Needs.{needs}
 use Rattle.groups.proofs.model_by_groups.Statement.{statement}
 use Rattle.groups.proofs.model_by_groups.Tie as tie
