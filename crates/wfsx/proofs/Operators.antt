@@ -98,10 +98,6 @@ module _ (P : Program) where
   pub ΓΓs-monotone : (S U : Set) → S ⊆ U → ΓΓs S ⊆ ΓΓs U
   ΓΓs-monotone S U f = Γ-antitone P (Γs-antitone f)
 
-  pub I-none : I P 0 ≡ ∅
-  unfolding I
-  I-none = refl
-
   pub I-next : (k : ℕ) → I P (suc k) ≡ Γ P (Γs P (I P k))
   unfolding I
   I-next k = refl
