@@ -24,7 +24,7 @@ heads-in (r ∷ P) base h A (List·Memᴰ·tail m) = heads-in P base (λ q i. h 
 
 -- ---- both literals of a name
 
-both-literals : (S : Set) (A : ℕ) → A ∈ S → compl A ∈ S → Both S (A / 2)
+pub both-literals : (S : Set) (A : ℕ) → A ∈ S → compl A ∈ S → Both S (A / 2)
 both-literals S A a c = go (of-name A)
   where
     go : (A ≡ 2 * (A / 2)) ⊎ (A ≡ 2 * (A / 2) + 1) → Both S (A / 2)

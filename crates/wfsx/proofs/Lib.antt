@@ -15,6 +15,7 @@ pub mod Ancestors
 pub mod Agreement
 pub mod Reach
 pub mod Relevance
+pub mod ContradictoryNames
 pub mod Steps
 pub mod Order
 pub mod Going

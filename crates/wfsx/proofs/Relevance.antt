@@ -11,7 +11,7 @@ use borrow.Author.Tests.{not-false}
 use Rattle.wfsx.specs.Sets.{Set, _∈_, _isIn_}
 use Rattle.wfsx.specs.Program.{compl, Entry, positive, default, Rule, Program, seminormalRule, seminormal}
 use Rattle.wfsx.specs.Model.{holds, every, supported, Γ, Γs, I, M, N, verdict}
-use Rattle.wfsx.specs.Reach.{nameOf, nameIn, nameFor, reach, literalsOf, rulesFor}
+use Rattle.wfsx.specs.Reach.{nameOf, nameIn, nameFor, reach, literalsOf, rulesFor, reachedRules}
 use Rattle.truth.proofs.Truth.{same-test, not-mono}
 use Rattle.wfsx.proofs.Sets.{⊆-antisym}
 use Rattle.wfsx.proofs.Program.{compl-even, compl-odd, of-name}
@@ -138,10 +138,6 @@ for-elim W P r m = let w = without-elim (λ A. not (literalsOf W A)) P r m in (w
 
 pub reach-down : (P : Program) (n : ℕ) → Downward P (reach P n)
 reach-down P n r m w e i = reach-body P n r e m w i
-
--- the rules for the names that n reaches
-abbrev pub reachedRules : Program → ℕ → Program
-reachedRules P n = rulesFor (reach P n) P
 
 module _ (P : Program) (n : ℕ) where
   there : Has (reach P n) (reachedRules P n) P

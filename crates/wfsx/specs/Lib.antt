@@ -1,4 +1,4 @@
--- The definitions: sets of literals, programs, the model, its rounds, answer sets, the pruned trees, reach and groups.
+-- The definitions: sets of literals, programs, the model, its rounds, answer sets, the pruned trees, reach, groups and contradictory names.
 pub mod Sets
 pub mod Program
 pub mod Model
@@ -7,3 +7,4 @@ pub mod AnswerSets
 pub mod Trees
 pub mod Reach
 pub mod Groups
+pub mod ContradictoryNames

@@ -65,3 +65,7 @@ literalsOf W A = W (nameOf A)
 -- the rules for the names in W
 unfoldable pub rulesFor : Set → Program → Program
 rulesFor W P = withoutHeads (λ A. not (literalsOf W A)) P
+
+-- the rules for the names that n reaches
+abbrev pub reachedRules : Program → ℕ → Program
+reachedRules P n = rulesFor (reach P n) P
