@@ -1,7 +1,7 @@
 -- Sets of names, as sets of literals that have both literals of each name. So the lowest name with both literals is the lowest name of the set.
 use mathlib.Core.Path.{_≡_, refl, sym, _∙_, ap, ap₂, subst, fun-ext}
 use mathlib.Core.Logic.{_⊎_, inl, inr}
-use mathlib.Core.Bool.{_&&_, _||_, and-self}
+use mathlib.Core.Bool.{Bool, true, false, not, _&&_, _||_, and-self}
 use Prim.Native.Nat.{ℕ, _+_, _*_, _/_, _<_}
 use native.Mathlib.Decide.{decLt, ℕ-discrete}
 use native.Mathlib.Omega.{arith}
@@ -74,6 +74,16 @@ module _ (S : Set) (inside : (A : ℕ) → A ∈ S → A < capacity) (c : Clash)
       go : (x : Clash) → ClashOf S x → LowestOf (bothIn S) x
       go None f = λ k. none k (f k)
       go (Name k) f = let high = inside (2 * k + 1) (f .0 .1) in (and-intro _ _ (f .0 .0) (f .0 .1), λ j h. none j (f .1 j h), omega arith)
+
+-- ---- the members of two sets
+
+pub common : (S U : Set) (A : ℕ) → (S ∖ (S ∖ U)) A ≡ (S A && U A)
+common S U A = go (S A) (U A)
+  where
+    go : (a b : Bool) → (a && not (a && not b)) ≡ (a && b)
+    go true true = refl
+    go true false = refl
+    go false b = refl
 
 -- ---- a set that grows
 

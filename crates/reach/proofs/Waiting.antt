@@ -19,7 +19,7 @@ use Rattle.wfsx.proofs.Sets.{⊆-antisym}
 use Rattle.wfsx.proofs.Reach.{reach-itself, reach-trans, reach-is, group-is}
 use Rattle.litset.specs.declared.Clash.the-variants.{None, Name}
 use Rattle.reach.specs.Table.{rowSet, withName, bothIn, Put, Meeting, Met, unlistedBelow, Next, found, nothing, Waiting, Stuck, Noted, NextBy, Released}
-use Rattle.reach.proofs.Names.{withName-has, withName-keeps, literal-in, both-names, LowestOf, taken}
+use Rattle.reach.proofs.Names.{withName-has, withName-keeps, literal-in, both-names, LowestOf, common, taken}
 
 -- ---- names that reach k, from the lowest on
 
@@ -147,14 +147,14 @@ module _ (P : Program) (n : ℕ) (listed : Set) (table : List ℕ) (left : Set) 
     reached-elim : (j : ℕ) → j ∈ reached → (j ∈ reach P k) × (j < n) × (j ∉ listed)
     unfolding reached
     reached-elim j h =
-        let r = and-l (reach P k j) _ h in
-        let l = not-false _ (refuted (λ o. clash (and-intro (reach P k j) _ r o) (not-true _ (and-r (reach P k j) _ h)))) in
-        (r, ltb-true j n (and-l (ltb j n) _ l), not-true (listed j) (and-r (ltb j n) _ l))
+        let both = sym (common (reach P k) (unlistedBelow n listed) j) ∙ h in
+        let l = and-r (reach P k j) _ both in
+        (and-l (reach P k j) _ both, ltb-true j n (and-l (ltb j n) _ l), not-true (listed j) (and-r (ltb j n) _ l))
 
     reached-intro : (j : ℕ) → j ∈ reach P k → j < n → j ∉ listed → j ∈ reached
     unfolding reached
     reached-intro j r l u =
-        and-intro (reach P k j) _ r (not-intro (refuted (λ o. clash (and-intro (ltb j n) _ (lt-ltb j n l) (not-intro u)) (not-true _ (and-r (reach P k j) _ o)))))
+        common (reach P k) (unlistedBelow n listed) j ∙ and-intro (reach P k j) _ r (and-intro (ltb j n) _ (lt-ltb j n l) (not-intro u))
 
     among-are : among ≡ literalsOf reached
     unfolding reached

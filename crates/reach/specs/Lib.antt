@@ -1,3 +1,4 @@
 -- What the contracts of `reach` cite.
 pub mod Order
 pub mod Table
+pub mod Reaching

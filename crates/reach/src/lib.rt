@@ -1,5 +1,6 @@
-// The working order of a book's names: which names each name reaches, then group by group the lowest name whose group waits for no other. A set of
-// names is a set of literals that has both literals of each name, and a table of what each name reaches has such a set as words for each name.
+// What the names of a book reach: their working order, group by group the lowest name whose group waits for no other, and the names that reach one
+// with both literals in a set. A set of names is a set of literals that has both literals of each name, and a table of what each name reaches has such a
+// set as words for each name.
 ghost use mathlib.Core.Path.{_≡_};
 ghost use Prim.Native.Nat.{_≤_, _<_};
 ghost use lib.ListN.{length};
@@ -10,6 +11,7 @@ ghost use Rattle.litset.specs.Words.{setOf};
 ghost use Rattle.book.specs.Limits.{maxNames};
 ghost use Rattle.book.specs.Book.{clamp, entryIs, headAt, bodyOf, rulesIn, rulesOf};
 ghost use Rattle.reach.specs.Order.{orderTable};
+ghost use Rattle.reach.specs.Reaching.{ReachingBoth, WithReaching, RowsHaving};
 ghost use Rattle.reach.specs.Table.{nNames, tableSize, rowWords, rowSet, pairedWord, withName, bothIn, Put, Rows, WholeRows, ReachedBy, settledWith, Completed, TurnOf, SweptBy, Met, below, NextBy, Released, PutFits, PutNames};
 use book::Book;
 use book::Entry;
@@ -47,6 +49,16 @@ pub fn order_below(book: Book, names: usize) -> Order
         clamped(names),
     );
     r
+}
+
+// Both literals of each name of the book that reaches a name with both literals in a set. A name reaches itself, so such a name is among them.
+pub fn reaching_both(book: Book, s: LitSet) -> LitSet
+    ensures { λ r. ⌜ ReachingBoth (rulesOf book) (clamp maxNames (book .names)) (setOf (s .words)) (setOf (r .words)) ⌝ }
+{
+    let rules = book::rule_count(book);
+    let names = book::name_count(book);
+    let table = reach_table(&book.heads, &book.starts, &book.entries, rules, names);
+    rows_having(&table, names, s)
 }
 
 fn clamped(names: usize) -> usize
@@ -286,6 +298,35 @@ fn reach_table<'a>(
     let down = sweep(&mut table, up, names, true, false);
     sweep(&mut table, down, names, false, true);
     table
+}
+
+// ---- the names that reach a name with both literals in a set
+
+// The names found, with more of them where the row of these has a name with both literals in a set. The row without what the set has not is what the
+// two share.
+fn with_reaching(found: LitSet, more: LitSet, row: LitSet, s: LitSet) -> LitSet
+    ensures { λ r. ⌜ WithReaching (setOf (found .words)) (setOf (more .words)) (setOf (row .words)) (setOf (s .words)) (setOf (r .words)) ⌝ }
+{
+    match litset::lowest_both(litset::difference(row, litset::difference(row, s))) {
+        Clash::None => found,
+        Clash::Name(_) => litset::union(found, more),
+    }
+}
+
+// The names below a number whose rows have a name with both literals in a set.
+fn rows_having(table: &[u64], names: usize, s: LitSet) -> LitSet
+    requires { ⌜ (length (now table) ≡ tableSize) × (names ≤ nNames) ⌝ }
+    ensures { λ r. ⌜ RowsHaving (now (table .entry)) names (setOf (s .words)) (setOf (r .words)) ⌝ }
+{
+    let mut found = litset::empty();
+    let mut k: usize = 0;
+    while k < names {
+        let itself = with_name(litset::empty(), k);
+        let row = row_at(table, k);
+        found = with_reaching(found, itself, row, s);
+        k += 1;
+    }
+    found
 }
 
 // ---- the next group
