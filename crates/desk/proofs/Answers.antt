@@ -71,7 +71,7 @@ module _ (cs : List Call) (start k : Desk) (f : Fresh start) (run : Run start cs
             record {
               truths = h .truths ∙ part-loaded (shelfOf (k .shelf)) there (truthsOf (k .lesson)) ∅ ∙ stands .truths;
               nonfalse = h .nonfalse ∙ part-loaded (shelfOf (k .shelf)) there (nonfalseOf (k .lesson)) ∅ ∙ stands .nonfalse;
-              rounds = h .rounds ∙ part-loaded (shelfOf (k .shelf)) there (k .lesson .model .rounds) 0 ∙ stands .rounds;
+              rounds = h .rounds ∙ part-loaded (shelfOf (k .shelf)) there (k .lesson .marks .model .rounds) 0 ∙ stands .rounds;
             };
       }
 

@@ -1,28 +1,34 @@
--- Demand 2: a verdict in a run is that of the model of the list's program, and 24 is given exactly where the published definition gives it none. The sets
--- that stand are M and N of that program, so what the call reads from them is what the definition says.
-use mathlib.Core.Path.{_≡_, refl, ap}
+-- Demand 2: 24 is given exactly where the rules for the names that the literal's name reaches have no partial stable model, and every other verdict is the
+-- value in the least one. The marks that stand are those of the list's program, and M of these rules is M of the whole program on the reached names.
+use mathlib.Core.Path.{_≡_, refl, sym, ap, _∙_}
+use mathlib.Core.Bool.{Bool, true, false, cond, true≢false}
 use mathlib.Core.List.{List}
 use Prim.Native.Nat.{ℕ}
 use Rattle.wfsx.specs.Sets.{Set, _∈_}
 use Rattle.wfsx.specs.Program.{Program}
-use Rattle.wfsx.specs.Model.{M, N}
+use Rattle.wfsx.specs.Model.{Heads⊆}
 use Rattle.wfsx.specs.Model as wfsx
+use Rattle.wfsx.specs.Reach.{nameOf, reachedRules}
+use Rattle.wfsx.specs.ContradictoryNames.{ContradictoryName, contradictoryNames}
 use Rattle.wfsx.proofs.Contradiction.{contradiction, least-partial-stable, partial-stable-above, verdict-value}
-use Rattle.litset.specs.Words.{clashIn}
-use Rattle.litset.specs.declared.Clash.{Clash}
-use Rattle.litset.specs.declared.Clash.the-variants as clash
-use Rattle.fixpoint.specs.Result.{verdictIn}
-use Rattle.fixpoint.proofs.Published.{no-clash, clash-name, verdict-same}
-use Rattle.lesson.specs.State.{State, inBook, programIn, ContradictoryOver, gives, unlessClash, verdictSays}
-use Rattle.lesson.specs.Calls.{truthsOf, nonfalseOf, verdictSaid, GivesVerdict}
+use Rattle.wfsx.proofs.ContradictoryNames.{contradictory-is, reached-contradiction, reached-stable, reached-value}
+use Rattle.fixpoint.proofs.Published.{verdict-same}
+use Rattle.lesson.specs.State.{State, inBook, programIn, ContradictoryOver, Said, gives, refused, verdictSays}
+use Rattle.lesson.specs.Calls.{truthsOf, nonfalseOf, contradictoryOf, verdictSaid, GivesVerdict}
 use Rattle.lesson.specs.declared.VerdictAnswer.{VerdictAnswer}
 use Rattle.lesson.proofs.Order.{given-refused}
 use Rattle.lesson.proofs.WithBook.{verdict-inside}
-use Rattle.lesson.proofs.Sound.{Sound, heads-in-book, heads-in-room}
+use Rattle.lesson.proofs.Marks.{contradictory-at}
+use Rattle.lesson.proofs.Sound.{Sound, heads-in-book}
 use Rattle.desk.specs.Calls.{Fresh}
 use Rattle.desk.specs.Runs.{Call, left, Run, ModelVerdict, VerdictDue}
 use Rattle.desk.specs.declared.Desk.{Desk}
-use Rattle.desk.proofs.Left.{left-means, left-good, standing-left}
+use Rattle.desk.proofs.Left.{left-means, marks-left}
+use Rattle.desk.proofs.Exists.{left-sound}
+
+-- what is said of a literal of the book, by its program alone
+abbrev pub dueOf : Program → ℕ → Said wfsx.Verdict
+dueOf P A = cond (contradictoryNames P (nameOf A)) (refused 24) (gives (wfsx.verdict P A))
 
 module _ (d : State) (s : Sound d) (A : ℕ) (i : A ∈ inBook (d .book)) where
   abbrev P : Program
@@ -31,33 +37,62 @@ module _ (d : State) (s : Sound d) (A : ℕ) (i : A ∈ inBook (d .book)) where
   abbrev base : Set
   base = inBook (d .book)
 
-  model-verdict : (ContradictoryOver base d → ⊥) → ModelVerdict base P A (wfsx.verdict P A)
-  model-verdict never =
-      let over = heads-in-book d s in
+  over : Heads⊆ P base
+  over = heads-in-book d s
+
+  reached-verdict : (ContradictoryName P (nameOf A) → ⊥) → ModelVerdict base (reachedRules P (nameOf A)) A (wfsx.verdict P A)
+  reached-verdict never =
+      record {
+        stable = reached-stable P (nameOf A) base over never;
+        least = partial-stable-above (reachedRules P (nameOf A)) base;
+        value = reached-value P (nameOf A) base over A refl i;
+      }
+
+  whole-verdict : (ContradictoryOver base d → ⊥) → ModelVerdict base P A (wfsx.verdict P A)
+  whole-verdict never =
       record {
         stable = least-partial-stable P base over (λ n b. never (contradiction P base over .1 (n, b)));
         least = partial-stable-above P base;
         value = verdict-value P base A i;
       }
 
-  verdict-due : (T U : Set) → T ≡ M P → U ≡ N P → VerdictDue d A (verdictSays (d .book) T U A)
-  verdict-due T U t u = rw (verdict-inside (d .book) T U A i) (go (clashIn T) refl)
+  verdict-due : VerdictDue d A (dueOf P A)
+  verdict-due = go (contradictoryNames P (nameOf A)) refl
     where
-      go : (c : Clash) → clashIn T ≡ c → VerdictDue d A (unlessClash c (gives (verdictIn T U A)))
-      go clash.None e =
-          let never = no-clash P (heads-in-room d s) base (heads-in-book d s) .0 (rw t at e) in
+      go : (t : Bool) → contradictoryNames P (nameOf A) ≡ t → VerdictDue d A (cond t (refused 24) (gives (wfsx.verdict P A)))
+      go true e =
+          let name = contradictory-is P (nameOf A) .0 e in
+          let none = reached-contradiction P (nameOf A) base over .1 name in
           record {
-            refused-24 = (λ q. absurd (given-refused (verdictIn T U A) 24 q), λ c. absurd (never c));
-            given = λ c. (wfsx.verdict P A, ap gives (verdict-same P T U t u A), model-verdict c);
+            refused-24 = (λ q. name, λ q. refl);
+            read = λ never. absurd (never name);
+            without-model = (λ q. none, λ q. refl);
+            with-model = λ never. absurd (never none);
+            whole = λ never. absurd (never (contradiction P base over .1 (name .0, name .2)));
           }
-      go (clash.Name n) e =
-          let c = clash-name P (heads-in-room d s) base (heads-in-book d s) n .0 (rw t at e) .0 in
-          record { refused-24 = (λ q. c, λ q. refl); given = λ never. absurd (never c) }
+      go false e =
+          let never : ContradictoryName P (nameOf A) → ⊥ = λ name. true≢false (sym (contradictory-is P (nameOf A) .1 name) ∙ e) in
+          record {
+            refused-24 = (λ q. absurd (given-refused (wfsx.verdict P A) 24 q), λ name. absurd (never name));
+            read = λ never. refl;
+            without-model = (λ q. absurd (given-refused (wfsx.verdict P A) 24 q), λ none. absurd (never (reached-contradiction P (nameOf A) base over .0 none)));
+            with-model = λ some. (wfsx.verdict P A, refl, reached-verdict never);
+            whole = λ some. (wfsx.verdict P A, refl, whole-verdict some);
+          }
 
-pub demand2 : (cs : List Call) (start k : Desk) → Fresh start → Run start cs k → (A : ℕ) → A ∈ inBook (left cs .book) → (r : VerdictAnswer)
-    → GivesVerdict (k .shelf) (k .lesson) A r → VerdictDue (left cs) A (verdictSaid r)
-demand2 cs start k f run A i r h =
-    let means = left-means cs start k f run in
-    let stands = standing-left cs start k f run in
-    rw (h .says, ap (λ (d : State). d .book) means)
-    (verdict-due (left cs) (rw means at (left-good cs start k f run .sound)) A i (truthsOf (k .lesson)) (nonfalseOf (k .lesson)) (stands .truths) (stands .nonfalse))
+module _ (cs : List Call) (start k : Desk) (f : Fresh start) (run : Run start cs k) (A : ℕ) (i : A ∈ inBook (left cs .book)) (r : VerdictAnswer)
+    (h : GivesVerdict (k .shelf) (k .lesson) A r) where
+  pub verdict-said : verdictSaid r ≡ dueOf (programIn (left cs)) A
+  verdict-said =
+      let P = programIn (left cs) in
+      let b = left cs .book in
+      let T = truthsOf (k .lesson) in
+      let U = nonfalseOf (k .lesson) in
+      let C = contradictoryOf (k .lesson) in
+      let marks = marks-left cs start k f run in
+      let there : C A ≡ contradictoryNames P (nameOf A) = ap (λ (S : Set). S A) (marks .contradictory-are) ∙ contradictory-at b P A i in
+      h .says ∙ ap (λ (d : State). verdictSays (d .book) T U C A) (left-means cs start k f run) ∙ verdict-inside b T U C A i
+      ∙ rw (there, verdict-same P T U (marks .model-is .truths) (marks .model-is .nonfalse) A) refl
+
+  pub demand2 : VerdictDue (left cs) A (verdictSaid r)
+  demand2 = rw verdict-said (verdict-due (left cs) (left-sound cs) A i)

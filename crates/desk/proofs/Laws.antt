@@ -1,4 +1,4 @@
--- What each call of the desk owes: its desks are sound, and the sets of their lessons stand for M and N.
+-- What each call of the desk owes: its desks are sound, and the marks of their lessons are those of their programs.
 use Rattle.lesson.specs.State.{State}
 use Rattle.lesson.specs.Calls.{Standing}
 use Rattle.lesson.proofs.Sound.{Sound}

@@ -1,8 +1,10 @@
--- Each call keeps its laws, so after every run of a list the desk means the list's own book and set of facts, and the sets of its lesson stand for M and N
--- of the list's program.
-use mathlib.Core.Path.{_≡_, _∙_, ap}
+-- Each call keeps its laws, so after every run of a list the desk means the list's own book and set of facts, and the marks of its lesson are those of the
+-- list's program.
+use mathlib.Core.Path.{_≡_, _∙_, ap, subst}
 use mathlib.Core.List.{List}
-use Rattle.lesson.specs.State.{State, programIn}
+use lib.ListN.{length}
+use Rattle.lesson.specs.State.{State, itsNames, programIn}
+use Rattle.lesson.specs.Calls.{MarksOf}
 use Rattle.fixpoint.specs.Result.{ModelOf}
 use Rattle.calls.specs.Lists.{afterAll}
 use Rattle.calls.proofs.Lists.{run-means}
@@ -31,6 +33,9 @@ module _ (cs : List Call) (start end : Desk) (f : Fresh start) (run : Run start 
   pub left-good : Good end
   left-good = run-means stateOf Good specOf lawsOf cs start end (fresh-good start f) run .1
 
-  -- the sets that stand are M and N of the list's program
-  pub standing-left : ModelOf (programIn (left cs)) (end .lesson .model)
-  standing-left = rw left-means at (left-good .stands)
+  -- the marks that stand are those of the list's program
+  pub marks-left : MarksOf (length (itsNames (left cs .book))) (programIn (left cs)) (end .lesson .marks)
+  marks-left = subst (λ (d : State). MarksOf (length (itsNames (d .book))) (programIn d) (end .lesson .marks)) left-means (left-good .stands)
+
+  pub standing-left : ModelOf (programIn (left cs)) (end .lesson .marks .model)
+  standing-left = marks-left .model-is

@@ -1,4 +1,4 @@
--- The laws of the calls on the desk's lesson: a change leaves what its arguments say and keeps the sets standing, and a call that reads changes nothing.
+-- The laws of the calls on the desk's lesson: a change leaves what its arguments say and keeps the marks standing, and a call that reads changes nothing.
 use mathlib.Core.Path.{_≡_, refl, sym, _∙_, ap}
 use mathlib.Core.Bool.{Bool}
 use mathlib.Core.List.{List}
@@ -68,7 +68,7 @@ verdict-laws A =
     (record {
       stays = λ d. refl;
       leaves = λ k r. refl;
-      exactly = λ k r g h number line. rw (h .says) (verdict-by (stateOf k) (g .sound) _ _ (g .stands .truths) A number);
+      exactly = λ k r g h number line. rw (h .says) (verdict-by (stateOf k) _ _ _ (g .stands .contradictory-are) A number);
       unwritten = λ k r h number line e. record {};
       replies = λ k. verdict-exists (k .shelf) (k .lesson) A;
     })

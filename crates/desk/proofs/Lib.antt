@@ -14,3 +14,4 @@ pub mod Sizing
 pub mod Parted
 pub mod Spelling
 pub mod Rounds
+pub mod Reached

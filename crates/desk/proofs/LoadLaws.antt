@@ -7,9 +7,9 @@ use Prim.Native.Nat.{ℕ}
 use native.Mathlib.Omega.{arith}
 use Rattle.wfsx.specs.Program.{Rule}
 use Rattle.scan.specs.declared.Alphabet.the-variants.{EitherCase}
-use Rattle.book.specs.Book.{rulesOf, bookOf, noBook}
+use Rattle.book.specs.Book.{bookOf, namesOf, rulesOf, noBook}
 use Rattle.book.specs.declared.Book.{Book}
-use Rattle.book.proofs.Back.{book-rules}
+use Rattle.book.proofs.Back.{book-names, book-rules}
 use Rattle.reader.specs.File.{Outcome, accepted, readFile}
 use Rattle.reader.specs.File as reader
 use Rattle.reader.specs.declared.Answer.{Answer}
@@ -42,6 +42,9 @@ some e = omega arith
 pub fresh-means : (k : Desk) → Fresh k → stateOf k ≡ nothing
 fresh-means k h = begun-means 0 noBook k h ∙ rw (shelf-empty (record { loaded = 0; book = noBook }) refl) refl
 
+no-names : namesOf noBook ≡ []
+no-names = book-names [] [] (λ n i. absurd (List·Memᴰ·not-nil i)) (omega arith)
+
 no-rules : rulesOf noBook ≡ []
 no-rules = book-rules [] [] (record { heads-fit = λ r i. absurd (List·Memᴰ·not-nil i); entries-fit = λ r i. absurd (List·Memᴰ·not-nil i) }) (omega arith)
 
@@ -49,7 +52,7 @@ pub fresh-good : (k : Desk) → Fresh k → Good k
 fresh-good k h =
     record {
       sound = rw (fresh-means k h) sound-nothing;
-      stands = rw (h .shelf-is) (begin-empty (record { loaded = 0; book = noBook }) (k .lesson) (h .lesson-begins) refl no-rules);
+      stands = rw (h .shelf-is) (begin-empty (record { loaded = 0; book = noBook }) (k .lesson) (h .lesson-begins) refl no-names no-rules);
     }
 
 module _ (file : List ℕ) (names : List (List ℕ)) (rules : List Rule) (e : readFile EitherCase file ≡ accepted names rules) (k : Desk) (h : Begun 1 (bookOf names rules) k) where

@@ -1,16 +1,17 @@
 -- A listing parted into lines and fields. A line is put together from its fields, with commas between them and byte 10 behind. Every byte of a field is
 -- above both, so the lines and fields of the listing are those that it is put together from.
-use mathlib.Core.Path.{_≡_, refl, sym, ap, _∙_}
+use mathlib.Core.Path.{_≡_, refl, sym, ap, ap₂, _∙_}
 use mathlib.Core.Logic.{inl, inr, ⊎-elim}
-use mathlib.Core.Bool.{true}
+use mathlib.Core.Bool.{Bool, true, false, cond}
 use mathlib.Core.List.{List, [], _∷_, _++_, append-assoc, List·Memᴰ·head, List·Memᴰ·tail, List·Memᴰ·not-nil, List·Memᴰ·cases-cons, List·Memᴰ·append-cases}
 use Prim.Native.Nat.{ℕ, zero, suc, _+_, _*_, _≤_, _<_}
+use native.Mathlib.Nat.{add-zero, zero-add}
 use native.Mathlib.Numerals.{add-one}
 use native.Mathlib.Omega.{arith}
 use lib.Dec.{ltb}
 use lib.ListN.{length, getD}
 use borrow.Author.Tests.{ltb-true}
-use Rattle.wfsx.specs.Sets.{_isIn_}
+use Rattle.wfsx.specs.Sets.{Set, _isIn_}
 use Rattle.wfsx.specs.Program.{Rule}
 use Rattle.wfsx.specs.Model.{Verdict, is-true, is-false, is-undefined}
 use Rattle.litset.specs.declared.Clash.{Clash}
@@ -24,14 +25,14 @@ use Rattle.reader.proofs.Faults.{each-passes}
 use Rattle.reader.proofs.Tests.{name-is}
 use Rattle.reader.proofs.Pieces.{fields-are, lines-closed}
 use Rattle.reader.proofs.Within.{accepted-within}
-use Rattle.lister.specs.Listing.{modelWord, contradictionWord, verdictWord, digits, line, counts, verdictFields, nameLines, listingBy}
+use Rattle.lister.specs.Listing.{modelWord, contradictionWord, contradictoryWord, verdictWord, digits, line, counts, markWord, verdictFields, nameLines, headerBy, listingBy}
 use Rattle.lister.proofs.Digits.{digit-bytes}
 use Rattle.desk.specs.Spelling.{fieldAt}
 
 -- ---- the bytes of a field
 
 -- every byte is above the comma, and so above byte 10
-abbrev Plain : List ℕ → Type 0
+abbrev pub Plain : List ℕ → Type 0
 Plain f = (b : ℕ) → b isIn f → comma < b
 
 abbrev pub AllPlain : List (List ℕ) → Type 0
@@ -51,6 +52,14 @@ unfolding allBytes
 verdict-plain is-true = word-plain (verdictWord is-true) refl
 verdict-plain is-false = word-plain (verdictWord is-false) refl
 verdict-plain is-undefined = word-plain (verdictWord is-undefined) refl
+
+pub mark-plain : (v : ℕ → Verdict) (C : Set) (A : ℕ) → Plain (markWord v C A)
+unfolding allBytes
+mark-plain v C A = go (C A)
+  where
+    go : (b : Bool) → Plain (cond b contradictoryWord (verdictWord (v A)))
+    go true = word-plain contradictoryWord refl
+    go false = verdict-plain (v A)
 
 digits-plain : (n : ℕ) → Plain (digits n)
 digits-plain n b m = let h = digit-bytes n b m .0 in omega arith
@@ -111,70 +120,85 @@ module _ (f : List ℕ) (fs ls : List (List ℕ)) where
 
 -- ---- the lines of the names
 
-module _ (v : ℕ → Verdict) where
+module _ (w : ℕ → List ℕ) (words : (A : ℕ) → Plain (w A)) where
   -- without their bytes 10, and the first has number k
   unfoldable bodies : ℕ → List (List ℕ) → List (List ℕ)
   bodies k [] = []
-  bodies k (name ∷ names) = lineBody (digits k) (name ∷ verdictFields v k) ∷ bodies (suc k) names
+  bodies k (name ∷ names) = lineBody (digits k) (name ∷ verdictFields w k) ∷ bodies (suc k) names
 
-  bodies-closed : (k : ℕ) (names : List (List ℕ)) → closed newline (bodies k names) ≡ nameLines v k names
+  bodies-closed : (k : ℕ) (names : List (List ℕ)) → closed newline (bodies k names) ≡ nameLines w k names
   unfolding bodies nameLines closed
   bodies-closed k [] = refl
   bodies-closed k (name ∷ names) =
-      let fs = name ∷ verdictFields v k in
+      let fs = name ∷ verdictFields w k in
       first-closed (digits k) fs (bodies (suc k) names) ∙ ap (λ (l : List ℕ). line (digits k) fs ++ l) (bodies-closed (suc k) names)
 
-  body-plain : (k : ℕ) {name : List ℕ} → Plain name → AllPlain (digits k ∷ name ∷ verdictFields v k)
-  body-plain k p = one-more (digits-plain k) (one-more p (one-more (verdict-plain (v (2 * k))) (one-more (verdict-plain (v (2 * k + 1))) no-fields)))
+  body-plain : (k : ℕ) {name : List ℕ} → Plain name → AllPlain (digits k ∷ name ∷ verdictFields w k)
+  body-plain k p = one-more (digits-plain k) (one-more p (one-more (words (2 * k)) (one-more (words (2 * k + 1)) no-fields)))
 
   bodies-free : (k : ℕ) (names : List (List ℕ)) → AllPlain names → FreeOf newline (bodies k names)
   unfolding bodies
   bodies-free k [] a = λ p m i. List·Memᴰ·not-nil m
   bodies-free k (name ∷ names) a =
-      first-free (digits k) (name ∷ verdictFields v k) (bodies (suc k) names) (body-plain k (a name (List·Memᴰ·head refl)))
+      first-free (digits k) (name ∷ verdictFields w k) (bodies (suc k) names) (body-plain k (a name (List·Memᴰ·head refl)))
       (bodies-free (suc k) names (λ f m. a f (List·Memᴰ·tail m)))
 
-  body-name : (k : ℕ) (names : List (List ℕ)) → AllPlain names → (i : ℕ) → i < length names → getD (fields (getD (bodies k names) i [])) 1 [] ≡ getD names i []
+  bodies-fields : (k : ℕ) (names : List (List ℕ)) → AllPlain names → (i : ℕ) → i < length names
+      → fields (getD (bodies k names) i []) ≡ digits (k + i) ∷ getD names i [] ∷ verdictFields w (k + i)
   unfolding bodies
-  body-name k [] a i h = absurd (omega arith)
-  body-name k (name ∷ names) a zero h =
-      ap (λ (fs : List (List ℕ)). getD fs 1 []) (body-fields (digits k) (name ∷ verdictFields v k) (body-plain k (a name (List·Memᴰ·head refl))))
-  body-name k (name ∷ names) a (suc i) h = body-name (suc k) names (λ f m. a f (List·Memᴰ·tail m)) i (omega arith)
+  bodies-fields k [] a i h = absurd (omega arith)
+  bodies-fields k (name ∷ names) a zero h =
+      rw (add-zero k) (body-fields (digits k) (name ∷ verdictFields w k) (body-plain k (a name (List·Memᴰ·head refl))))
+  bodies-fields k (name ∷ names) a (suc i) h =
+      let next : suc k + i ≡ k + suc i = omega arith in
+      rw (← next) (bodies-fields (suc k) names (λ f m. a f (List·Memᴰ·tail m)) i (omega arith))
 
 -- ---- the fields of a listing
 
-module _ (names : List (List ℕ)) (a : AllPlain names) (rules facts k : ℕ) (v : ℕ → Verdict) where
-  abbrev header : List (List ℕ)
-  header = counts (length names) rules facts k
+module _ (names : List (List ℕ)) (a : AllPlain names) (rules facts k : ℕ) (w : ℕ → List ℕ) (words : (A : ℕ) → Plain (w A)) where
+  -- the word of a header, and the fields behind it
+  abbrev header : Clash → List ℕ
+  header None = modelWord
+  header (Name n) = contradictionWord
 
-  counts-plain : {fs : List (List ℕ)} → AllPlain fs → AllPlain (header ++ fs)
+  abbrev behind : Clash → List (List ℕ)
+  behind None = counts (length names) rules facts k
+  behind (Name n) = counts (length names) rules facts k ++ (getD names n [] ∷ [])
+
+  header-is : (c : Clash) → headerBy names rules facts k c ≡ line (header c) (behind c)
+  unfolding headerBy
+  header-is None = refl
+  header-is (Name n) = refl
+
+  counts-plain : {fs : List (List ℕ)} → AllPlain fs → AllPlain (counts (length names) rules facts k ++ fs)
   counts-plain p = one-more (digits-plain (length names)) (one-more (digits-plain rules) (one-more (digits-plain facts) (one-more (digits-plain k) p)))
 
-  model-plain : AllPlain (modelWord ∷ header)
+  header-plain : (c : Clash) → AllPlain (header c ∷ behind c)
   unfolding allBytes
-  model-plain = one-more (word-plain modelWord refl) (counts-plain no-fields)
+  header-plain None = one-more (word-plain modelWord refl) (counts-plain no-fields)
+  header-plain (Name n) = one-more (word-plain contradictionWord refl) (counts-plain (one-more (plain-at names a n) no-fields))
 
-  model-lines : linesOf (listingBy names rules facts k v None) ≡ lineBody modelWord header ∷ bodies v 0 names
-  unfolding listingBy
-  model-lines =
-      let parts = first-closed modelWord header (bodies v 0 names) ∙ ap (λ (l : List ℕ). line modelWord header ++ l) (bodies-closed v 0 names) in
-      ap linesOf (sym parts) ∙ lines-closed (lineBody modelWord header ∷ bodies v 0 names) (first-free modelWord header (bodies v 0 names) model-plain (bodies-free v 0 names a))
+  module _ (c : Clash) where
+    listing-lines : linesOf (listingBy names rules facts k w c) ≡ lineBody (header c) (behind c) ∷ bodies w words 0 names
+    listing-lines =
+        let parts = first-closed (header c) (behind c) (bodies w words 0 names) ∙ ap₂ (λ (l m : List ℕ). l ++ m) (sym (header-is c)) (bodies-closed w words 0 names) in
+        ap linesOf (sym parts) ∙ lines-closed (lineBody (header c) (behind c) ∷ bodies w words 0 names) (first-free (header c) (behind c) (bodies w words 0 names) (header-plain c) (bodies-free w words 0 names a))
 
-  contradiction-fields : (n : ℕ) → fields (getD (linesOf (listingBy names rules facts k v (Name n))) 0 []) ≡ contradictionWord ∷ (header ++ (getD names n [] ∷ []))
-  unfolding listingBy allBytes closed
-  contradiction-fields n =
-      let fs = header ++ (getD names n [] ∷ []) in
-      let plain = one-more (word-plain contradictionWord refl) (counts-plain (one-more (plain-at names a n) no-fields)) in
-      let lines = ap linesOf (line-body contradictionWord fs) ∙ lines-closed (lineBody contradictionWord fs ∷ []) (first-free contradictionWord fs [] plain (λ p m i. List·Memᴰ·not-nil m)) in
-      ap (λ (ls : List (List ℕ)). fields (getD ls 0 [])) lines ∙ body-fields contradictionWord fs plain
+    header-fields : fields (getD (linesOf (listingBy names rules facts k w c)) 0 []) ≡ header c ∷ behind c
+    header-fields = rw listing-lines (body-fields (header c) (behind c) (header-plain c))
 
-  pub name-in-line : (i : ℕ) → i < length names → fieldAt (listingBy names rules facts k v None) (i + 1) 1 ≡ getD names i []
-  name-in-line i h = rw (model-lines, add-one i) (body-name v 0 names a i h)
+    -- line i + 1 has name i, behind whichever header
+    pub line-fields : (i : ℕ) → i < length names
+        → fields (getD (linesOf (listingBy names rules facts k w c)) (i + 1) []) ≡ digits i ∷ getD names i [] ∷ verdictFields w i
+    line-fields i h = rw (listing-lines, add-one i) (rw (zero-add i) at (bodies-fields w words 0 names a i h))
 
-  pub name-in-header : (n : ℕ) → fieldAt (listingBy names rules facts k v (Name n)) 0 5 ≡ getD names n []
-  name-in-header n = ap (λ (fs : List (List ℕ)). getD fs 5 []) (contradiction-fields n)
+    -- both headers have the rounds behind the count of facts
+    pub rounds-in-header : fieldAt (listingBy names rules facts k w c) 0 4 ≡ digits k
+    rounds-in-header = ap (λ (fs : List (List ℕ)). getD fs 4 []) header-fields ∙ go c
+      where
+        go : (c : Clash) → getD (header c ∷ behind c) 4 [] ≡ digits k
+        go None = refl
+        go (Name n) = refl
 
-  -- both headers have the rounds behind the count of facts
-  pub rounds-in-header : (c : Clash) → fieldAt (listingBy names rules facts k v c) 0 4 ≡ digits k
-  rounds-in-header None = rw model-lines (ap (λ (fs : List (List ℕ)). getD fs 4 []) (body-fields modelWord header model-plain))
-  rounds-in-header (Name n) = ap (λ (fs : List (List ℕ)). getD fs 4 []) (contradiction-fields n)
+  pub name-in-header : (n : ℕ) → fieldAt (listingBy names rules facts k w (Name n)) 0 5 ≡ getD names n []
+  name-in-header n = ap (λ (fs : List (List ℕ)). getD fs 5 []) (header-fields (Name n))

@@ -1,14 +1,10 @@
 -- Every model call of a run gives the number of rounds, which is the least k with I(k) = I(k + 1) of the list's program, and the listing has it as a field.
 use mathlib.Core.Path.{_≡_, refl}
 use mathlib.Core.List.{List}
-use lib.ListN.{length}
-use Rattle.wfsx.specs.Sets.{members}
-use Rattle.wfsx.specs.Model.{M, verdict}
 use Rattle.wfsx.specs.Rounds.{rounds}
 use Rattle.wfsx.proofs.Rounds.{rounds-are}
-use Rattle.litset.specs.Words.{capacity, clashIn}
 use Rattle.lister.specs.Listing.{digits}
-use Rattle.lesson.specs.State.{BookState, unloaded, loaded-with, State, inForce, programIn, listingIn}
+use Rattle.lesson.specs.State.{BookState, unloaded, loaded-with, State, programIn, listingIn}
 use Rattle.lesson.specs.Calls.{GivesModel}
 use Rattle.lesson.specs.Conditions.{NoBook}
 use Rattle.lesson.specs.declared.ModelReply.{ModelReply}
@@ -20,8 +16,7 @@ use Rattle.desk.specs.Rounds.{RoundsDue}
 use Rattle.desk.specs.declared.Desk.{Desk}
 use Rattle.desk.proofs.Exists.{left-sound}
 use Rattle.desk.proofs.Answers.{model-due}
-use Rattle.desk.proofs.Parted.{names-plain, rounds-in-header}
-use Rattle.desk.proofs.Spelling.{listing-is, names-spelled}
+use Rattle.desk.proofs.Spelling.{rounds-listed}
 
 -- field 4 of the header, whichever header it is
 listed : (cs : List Call) → (NoBook (left cs) → ⊥) → fieldAt (listingIn (left cs)) 0 4 ≡ digits (rounds (programIn (left cs)))
@@ -32,11 +27,7 @@ listed cs some = go (left cs .book) refl
 
     go : (b : BookState) → left cs .book ≡ b → fieldAt (listingIn d) 0 4 ≡ digits (rounds (programIn d))
     go unloaded e = absurd (some e)
-    go (loaded-with names rules) e =
-        let spelled = names-spelled cs names rules e in
-        let plain = names-plain (spelled .file) names rules (spelled .read-as) in
-        rw (listing-is d (clashIn (M (programIn d))) refl, e)
-        (rounds-in-header names plain (length rules) (length (members capacity (inForce (d .own)))) (rounds (programIn d)) (verdict (programIn d)) (clashIn (M (programIn d))))
+    go (loaded-with names rules) e = rounds-listed cs names rules e
 
 pub rounds-due : (cs : List Call) (start k : Desk) → Fresh start → Run start cs k → (NoBook (left cs) → ⊥)
     → (r : ModelReply) → GivesModel (k .shelf) (k .lesson) r → RoundsDue (left cs) (r .model .rounds)

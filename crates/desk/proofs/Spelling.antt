@@ -4,7 +4,7 @@ use mathlib.Core.Path.{_≡_, refl, sym, ap, ap₂, _∙_}
 use mathlib.Core.Logic.{_⊎_, inl, inr, ⊎-elim}
 use mathlib.Core.Bool.{true≢false}
 use mathlib.Core.List.{List, [], _∷_, List·Memᴰ·head, List·Memᴰ·tail}
-use Prim.Native.Nat.{ℕ, _*_, _<_}
+use Prim.Native.Nat.{ℕ, _+_, _*_, _<_}
 use native.Mathlib.Omega.{arith}
 use lib.ListN.{length, getD}
 use borrow.Author.Tests.{ltb-true}
@@ -12,24 +12,26 @@ use Rattle.wfsx.specs.Sets.{_isIn_, members}
 use Rattle.wfsx.specs.Program.{Rule}
 use Rattle.wfsx.specs.Model.{M, verdict}
 use Rattle.wfsx.specs.Rounds.{rounds}
+use Rattle.wfsx.specs.Reach.{literalsOf}
+use Rattle.wfsx.specs.ContradictoryNames.{contradictoryNames}
 use Rattle.wfsx.proofs.Contradiction.{heads-in}
 use Rattle.wfsx.proofs.Operators.{M-head}
 use Rattle.litset.specs.Words.{capacity, clashIn}
-use Rattle.litset.specs.declared.Clash.{Clash}
-use Rattle.litset.specs.declared.Clash.the-variants.{None, Name}
+use Rattle.litset.specs.declared.Clash.the-variants.{Name}
 use Rattle.fixpoint.proofs.Published.{clash-name}
 use Rattle.scan.specs.declared.Alphabet.the-variants.{EitherCase}
-use Rattle.reader.specs.File.{Outcome, accepted, readFile}
+use Rattle.scan.specs.Text.{fields}
+use Rattle.reader.specs.File.{Outcome, accepted, linesOf, readFile}
 use Rattle.reader.specs.File as reader
 use Rattle.reader.proofs.Said.{names-as-declared}
-use Rattle.lister.specs.Listing.{listingBy, listingOf}
+use Rattle.lister.specs.Listing.{digits, verdictFields, markWord, listingBy, listingOf}
 use Rattle.lesson.specs.State.{loaded-with, State, itsNames, itsRules, noneLoaded, inForce, programIn, inBook, listingIn}
 use Rattle.lesson.proofs.Sound.{heads-in-book, heads-in-room}
 use Rattle.calls.specs.Lists.{afterAll}
 use Rattle.desk.specs.Runs.{Call, load, change, verdict as verdict-of, search-for, model, working-order, model-by-groups, listing, nothing, afterLoad, specOf, left}
-use Rattle.desk.specs.Spelling.{declaringField, Spelled}
+use Rattle.desk.specs.Spelling.{fieldAt, declaringField, Spelled}
 use Rattle.desk.proofs.Exists.{left-sound}
-use Rattle.desk.proofs.Parted.{names-plain, name-in-line, name-in-header}
+use Rattle.desk.proofs.Parted.{Plain, AllPlain, mark-plain, names-plain, line-fields, rounds-in-header, name-in-header}
 
 -- ---- the file
 
@@ -63,11 +65,13 @@ module _ (names : List (List ℕ)) (rules : List Rule) where
 
 -- ---- the listing
 
-pub listing-is : (d : State) (c : Clash) → clashIn (M (programIn d)) ≡ c
-    → listingIn d ≡ listingBy (itsNames (d .book)) (length (itsRules (d .book))) (length (members capacity (inForce (d .own)))) (rounds (programIn d)) (verdict (programIn d)) c
+-- the words in the verdict fields
+abbrev pub marksIn : State → ℕ → List ℕ
+marksIn d = markWord (verdict (programIn d)) (literalsOf (contradictoryNames (programIn d)))
+
+pub listing-is : (d : State) → listingIn d ≡ listingBy (itsNames (d .book)) (length (itsRules (d .book))) (length (members capacity (inForce (d .own)))) (rounds (programIn d)) (marksIn d) (clashIn (M (programIn d)))
 unfolding listingIn listingOf programIn
-listing-is d c e =
-    ap (listingBy (itsNames (d .book)) (length (itsRules (d .book))) (length (members capacity (inForce (d .own)))) (rounds (programIn d)) (verdict (programIn d))) e
+listing-is d = refl
 
 -- the literals of M are literals of the book
 clash-below : (cs : List Call) (n : ℕ) → clashIn (M (programIn (left cs))) ≡ Name n → n < length (itsNames (left cs .book))
@@ -80,21 +84,52 @@ clash-below cs n e =
     let inside = heads-in (programIn d) base over (2 * n) (M-head (programIn d) (2 * n) (both .0)) in
     omega (arith, ltb-true (2 * n) (2 * length (itsNames (d .book))) inside)
 
--- NAME is the field that declares the name, byte for byte
-pub names-spelled : (cs : List Call) (names : List (List ℕ)) (rules : List Rule) → left cs .book ≡ loaded-with names rules → Spelled cs names rules
-names-spelled cs names rules e =
-    let d = left cs in
-    let l = ⊎-elim (λ z. absurd (true≢false (ap noneLoaded z))) (λ l. l) (by-list names rules nothing cs e) in
-    let plain = names-plain (l .0) names rules (l .2) in
-    let facts = length (members capacity (inForce (d .own))) in
-    let k = rounds (programIn d) in
-    let v = verdict (programIn d) in
-    let listed : (c : Clash) → clashIn (M (programIn d)) ≡ c → listingIn d ≡ listingBy names (length rules) facts k v c = λ c q. rw e at (listing-is d c q) in
-    let declared : (k : ℕ) → getD names k [] ≡ declaringField (l .0) k = λ k. ap (λ (ns : List (List ℕ)). getD ns k []) (names-as-declared (l .0) names rules (l .2)) in
-    record {
-      file = l .0;
-      is-loaded = l .1;
-      read-as = l .2;
-      in-its-line = λ q i h. rw (listed None q) (name-in-line names plain (length rules) facts k v i h ∙ declared i);
-      in-the-header = λ n q. (rw e at (clash-below cs n q), rw (listed (Name n) q) (name-in-header names plain (length rules) facts k v n ∙ declared n));
-    }
+-- ---- its lines and fields
+
+module _ (cs : List Call) (names : List (List ℕ)) (rules : List Rule) (e : left cs .book ≡ loaded-with names rules) where
+  d : State
+  d = left cs
+
+  -- the file that the names are read from
+  from : (file : List ℕ) × (load file isIn cs) × (readFile EitherCase file ≡ accepted names rules)
+  from = ⊎-elim (λ z. absurd (true≢false (ap noneLoaded z))) (λ l. l) (by-list names rules nothing cs e)
+
+  plain : AllPlain names
+  plain = names-plain (from .0) names rules (from .2)
+
+  words : (A : ℕ) → Plain (marksIn d A)
+  words = mark-plain (verdict (programIn d)) (literalsOf (contradictoryNames (programIn d)))
+
+  facts : ℕ
+  facts = length (members capacity (inForce (d .own)))
+
+  listed : listingIn d ≡ listingBy names (length rules) facts (rounds (programIn d)) (marksIn d) (clashIn (M (programIn d)))
+  unfolding d facts
+  listed = rw e at (listing-is (left cs))
+
+  pub rounds-listed : fieldAt (listingIn (left cs)) 0 4 ≡ digits (rounds (programIn (left cs)))
+  unfolding d
+  rounds-listed = rw listed (rounds-in-header names plain (length rules) facts (rounds (programIn d)) (marksIn d) words (clashIn (M (programIn d))))
+
+  -- line i + 1 is that of name i
+  pub line-listed : (i : ℕ) → i < length names → fields (getD (linesOf (listingIn (left cs))) (i + 1) []) ≡ digits i ∷ getD names i [] ∷ verdictFields (marksIn (left cs)) i
+  unfolding d
+  line-listed i h = rw listed (line-fields names plain (length rules) facts (rounds (programIn d)) (marksIn d) words (clashIn (M (programIn d))) i h)
+
+  declared : (k : ℕ) → getD names k [] ≡ declaringField (from .0) k
+  declared k = ap (λ (ns : List (List ℕ)). getD ns k []) (names-as-declared (from .0) names rules (from .2))
+
+  -- NAME is the field that declares the name, byte for byte
+  pub names-spelled : Spelled cs names rules
+  unfolding d
+  names-spelled =
+      record {
+        file = from .0;
+        is-loaded = from .1;
+        read-as = from .2;
+        in-its-line = λ i h. ap (λ (fs : List (List ℕ)). getD fs 1 []) (line-listed i h) ∙ declared i;
+        in-the-header = λ n q. (
+          rw e at (clash-below cs n q),
+          rw (listed, q) (name-in-header names plain (length rules) facts (rounds (programIn d)) (marksIn d) words n ∙ declared n),
+        );
+      }

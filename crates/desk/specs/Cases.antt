@@ -1,12 +1,13 @@
 -- Document 01, "Short books to hold against it": cases 1 to 11 as one table of data, and among them a file of no bytes and one with capitals (document
--- 02, A.4 and A.2). Each has the calls, and what the listing, the verdicts and the searches give after them. Bytes stand as numbers, with their text above them, lines parted by ` / `.
+-- 02, A.4 and A.2), and one with a bad name (A.7). Each has the calls, and what the listing, the verdicts and the searches give after them. Bytes stand as numbers, with their text above them, lines parted by ` / `.
 use mathlib.Core.Bool.{Bool, true, false}
 use mathlib.Core.List.{List, [], _∷_, map}
 use Prim.Native.Nat.{ℕ}
-use Rattle.wfsx.specs.Model.{Verdict, is-true, is-false, is-undefined, verdict}
+use lib.ListN.{length}
+use Rattle.wfsx.specs.Model.{M, N, Verdict, is-true, is-false, is-undefined}
 use Rattle.wfsx.specs.Trees.{Tree, T, TU, answer}
 use Rattle.search.specs.Questions.{questionOf}
-use Rattle.lesson.specs.State.{State, programIn, listingIn}
+use Rattle.lesson.specs.State.{State, itsNames, programIn, listingIn, Said, gives, refused, contradictoryBelow, verdictSays}
 use Rattle.lesson.specs.declared.Change.the-variants.{PutIn, TakeOut}
 use Rattle.desk.specs.Runs.{Call, load, change, left}
 
@@ -23,7 +24,7 @@ asks A default k b = record { literal = A; default = default; tree = k; yes = b 
 pub record Case : Type 0 where
   pub calls : List Call
   pub listing : List ℕ
-  pub verdicts : List (ℕ × Verdict)
+  pub verdicts : List (ℕ × Said Verdict)
   pub answers : List Search
 
 -- the case as the definitions have it: the same calls, literals and questions, with what they give
@@ -31,12 +32,15 @@ abbrev pub answered : State → Search → Search
 answered d s =
     record { literal = s .literal; default = s .default; tree = s .tree; yes = answer (programIn d) (s .tree) (questionOf (s .literal) (s .default)) }
 
+abbrev pub judged : State → ℕ → Said Verdict
+judged d A = let P = programIn d in verdictSays (d .book) (M P) (N P) (contradictoryBelow (length (itsNames (d .book))) P) A
+
 abbrev pub found : Case → Case
 found c =
     record {
       calls = c .calls;
       listing = listingIn (left (c .calls));
-      verdicts = map (λ (v : ℕ × Verdict). (v .0, verdict (programIn (left (c .calls))) (v .0))) (c .verdicts);
+      verdicts = map (λ (v : ℕ × Said Verdict). (v .0, judged (left (c .calls)) (v .0))) (c .verdicts);
       answers = map (answered (left (c .calls))) (c .answers);
     }
 
@@ -50,7 +54,7 @@ case-1 =
     record {
       calls = load file-1 ∷ [];
       listing = 109 ∷ 111 ∷ 100 ∷ 101 ∷ 108 ∷ 44 ∷ 52 ∷ 44 ∷ 53 ∷ 44 ∷ 48 ∷ 44 ∷ 50 ∷ 10 ∷ 48 ∷ 44 ∷ 109 ∷ 111 ∷ 118 ∷ 105 ∷ 110 ∷ 103 ∷ 44 ∷ 116 ∷ 114 ∷ 117 ∷ 101 ∷ 44 ∷ 102 ∷ 97 ∷ 108 ∷ 115 ∷ 101 ∷ 10 ∷ 49 ∷ 44 ∷ 108 ∷ 111 ∷ 99 ∷ 107 ∷ 101 ∷ 100 ∷ 44 ∷ 102 ∷ 97 ∷ 108 ∷ 115 ∷ 101 ∷ 44 ∷ 116 ∷ 114 ∷ 117 ∷ 101 ∷ 10 ∷ 50 ∷ 44 ∷ 102 ∷ 97 ∷ 117 ∷ 108 ∷ 116 ∷ 44 ∷ 117 ∷ 110 ∷ 100 ∷ 101 ∷ 102 ∷ 105 ∷ 110 ∷ 101 ∷ 100 ∷ 44 ∷ 102 ∷ 97 ∷ 108 ∷ 115 ∷ 101 ∷ 10 ∷ 51 ∷ 44 ∷ 115 ∷ 116 ∷ 97 ∷ 108 ∷ 108 ∷ 101 ∷ 100 ∷ 44 ∷ 117 ∷ 110 ∷ 100 ∷ 101 ∷ 102 ∷ 105 ∷ 110 ∷ 101 ∷ 100 ∷ 44 ∷ 102 ∷ 97 ∷ 108 ∷ 115 ∷ 101 ∷ 10 ∷ [];
-      verdicts = (0, is-true) ∷ (1, is-false) ∷ (2, is-false) ∷ (3, is-true) ∷ (4, is-undefined) ∷ (5, is-false) ∷ (6, is-undefined) ∷ (7, is-false) ∷ [];
+      verdicts = (0, gives is-true) ∷ (1, gives is-false) ∷ (2, gives is-false) ∷ (3, gives is-true) ∷ (4, gives is-undefined) ∷ (5, gives is-false) ∷ (6, gives is-undefined) ∷ (7, gives is-false) ∷ [];
       answers = asks 0 false T true ∷ asks 0 false TU true ∷ asks 0 true T false ∷ asks 0 true TU false ∷ asks 2 false T false ∷ asks 2 false TU false ∷ asks 2 true T true ∷ asks 2 true TU true ∷ asks 4 false T false ∷ asks 4 false TU true ∷ asks 4 true T false ∷ asks 4 true TU true ∷ [];
     }
 
@@ -64,7 +68,7 @@ case-2 =
     record {
       calls = load file-2 ∷ [];
       listing = 109 ∷ 111 ∷ 100 ∷ 101 ∷ 108 ∷ 44 ∷ 49 ∷ 44 ∷ 49 ∷ 44 ∷ 48 ∷ 44 ∷ 48 ∷ 10 ∷ 48 ∷ 44 ∷ 97 ∷ 44 ∷ 102 ∷ 97 ∷ 108 ∷ 115 ∷ 101 ∷ 44 ∷ 102 ∷ 97 ∷ 108 ∷ 115 ∷ 101 ∷ 10 ∷ [];
-      verdicts = (0, is-false) ∷ (1, is-false) ∷ [];
+      verdicts = (0, gives is-false) ∷ (1, gives is-false) ∷ [];
       answers = asks 0 false T false ∷ asks 0 false TU false ∷ asks 0 true T true ∷ asks 0 true TU true ∷ [];
     }
 
@@ -78,7 +82,7 @@ case-3 =
     record {
       calls = load file-3 ∷ [];
       listing = 109 ∷ 111 ∷ 100 ∷ 101 ∷ 108 ∷ 44 ∷ 49 ∷ 44 ∷ 49 ∷ 44 ∷ 48 ∷ 44 ∷ 48 ∷ 10 ∷ 48 ∷ 44 ∷ 97 ∷ 44 ∷ 117 ∷ 110 ∷ 100 ∷ 101 ∷ 102 ∷ 105 ∷ 110 ∷ 101 ∷ 100 ∷ 44 ∷ 102 ∷ 97 ∷ 108 ∷ 115 ∷ 101 ∷ 10 ∷ [];
-      verdicts = (0, is-undefined) ∷ (1, is-false) ∷ [];
+      verdicts = (0, gives is-undefined) ∷ (1, gives is-false) ∷ [];
       answers = asks 0 false T false ∷ asks 0 false TU true ∷ asks 0 true T false ∷ asks 0 true TU true ∷ asks 1 false T false ∷ asks 1 false TU false ∷ asks 1 true T true ∷ asks 1 true TU true ∷ [];
     }
 
@@ -86,13 +90,13 @@ case-3 =
 abbrev file-4 : List ℕ
 file-4 = 110 ∷ 97 ∷ 109 ∷ 101 ∷ 44 ∷ 97 ∷ 10 ∷ 114 ∷ 117 ∷ 108 ∷ 101 ∷ 44 ∷ 97 ∷ 10 ∷ 114 ∷ 117 ∷ 108 ∷ 101 ∷ 44 ∷ 45 ∷ 97 ∷ 10 ∷ 101 ∷ 110 ∷ 100 ∷ 10 ∷ []
 
--- 4: lists contradiction,1,2,0,1,a
+-- 4: lists contradiction,1,2,0,1,a / 0,a,contradictory,contradictory
 abbrev case-4 : Case
 case-4 =
     record {
       calls = load file-4 ∷ [];
-      listing = 99 ∷ 111 ∷ 110 ∷ 116 ∷ 114 ∷ 97 ∷ 100 ∷ 105 ∷ 99 ∷ 116 ∷ 105 ∷ 111 ∷ 110 ∷ 44 ∷ 49 ∷ 44 ∷ 50 ∷ 44 ∷ 48 ∷ 44 ∷ 49 ∷ 44 ∷ 97 ∷ 10 ∷ [];
-      verdicts = [];
+      listing = 99 ∷ 111 ∷ 110 ∷ 116 ∷ 114 ∷ 97 ∷ 100 ∷ 105 ∷ 99 ∷ 116 ∷ 105 ∷ 111 ∷ 110 ∷ 44 ∷ 49 ∷ 44 ∷ 50 ∷ 44 ∷ 48 ∷ 44 ∷ 49 ∷ 44 ∷ 97 ∷ 10 ∷ 48 ∷ 44 ∷ 97 ∷ 44 ∷ 99 ∷ 111 ∷ 110 ∷ 116 ∷ 114 ∷ 97 ∷ 100 ∷ 105 ∷ 99 ∷ 116 ∷ 111 ∷ 114 ∷ 121 ∷ 44 ∷ 99 ∷ 111 ∷ 110 ∷ 116 ∷ 114 ∷ 97 ∷ 100 ∷ 105 ∷ 99 ∷ 116 ∷ 111 ∷ 114 ∷ 121 ∷ 10 ∷ [];
+      verdicts = (0, refused 24) ∷ (1, refused 24) ∷ [];
       answers = asks 0 false T true ∷ asks 0 false TU false ∷ asks 0 true T true ∷ asks 0 true TU false ∷ [];
     }
 
@@ -106,7 +110,7 @@ case-5 =
     record {
       calls = load file-5 ∷ [];
       listing = 109 ∷ 111 ∷ 100 ∷ 101 ∷ 108 ∷ 44 ∷ 50 ∷ 44 ∷ 51 ∷ 44 ∷ 48 ∷ 44 ∷ 50 ∷ 10 ∷ 48 ∷ 44 ∷ 97 ∷ 44 ∷ 102 ∷ 97 ∷ 108 ∷ 115 ∷ 101 ∷ 44 ∷ 116 ∷ 114 ∷ 117 ∷ 101 ∷ 10 ∷ 49 ∷ 44 ∷ 98 ∷ 44 ∷ 116 ∷ 114 ∷ 117 ∷ 101 ∷ 44 ∷ 102 ∷ 97 ∷ 108 ∷ 115 ∷ 101 ∷ 10 ∷ [];
-      verdicts = (0, is-false) ∷ (1, is-true) ∷ (2, is-true) ∷ (3, is-false) ∷ [];
+      verdicts = (0, gives is-false) ∷ (1, gives is-true) ∷ (2, gives is-true) ∷ (3, gives is-false) ∷ [];
       answers = asks 0 false T false ∷ asks 0 false TU false ∷ asks 0 true T true ∷ asks 0 true TU true ∷ asks 2 false T true ∷ asks 2 false TU true ∷ asks 2 true T false ∷ asks 2 true TU false ∷ [];
     }
 
@@ -120,7 +124,7 @@ case-6 =
     record {
       calls = load file-6 ∷ [];
       listing = 109 ∷ 111 ∷ 100 ∷ 101 ∷ 108 ∷ 44 ∷ 51 ∷ 44 ∷ 52 ∷ 44 ∷ 48 ∷ 44 ∷ 49 ∷ 10 ∷ 48 ∷ 44 ∷ 102 ∷ 44 ∷ 102 ∷ 97 ∷ 108 ∷ 115 ∷ 101 ∷ 44 ∷ 102 ∷ 97 ∷ 108 ∷ 115 ∷ 101 ∷ 10 ∷ 49 ∷ 44 ∷ 115 ∷ 44 ∷ 102 ∷ 97 ∷ 108 ∷ 115 ∷ 101 ∷ 44 ∷ 116 ∷ 114 ∷ 117 ∷ 101 ∷ 10 ∷ 50 ∷ 44 ∷ 100 ∷ 44 ∷ 117 ∷ 110 ∷ 100 ∷ 101 ∷ 102 ∷ 105 ∷ 110 ∷ 101 ∷ 100 ∷ 44 ∷ 102 ∷ 97 ∷ 108 ∷ 115 ∷ 101 ∷ 10 ∷ [];
-      verdicts = (0, is-false) ∷ (1, is-false) ∷ (2, is-false) ∷ (3, is-true) ∷ (4, is-undefined) ∷ (5, is-false) ∷ [];
+      verdicts = (0, gives is-false) ∷ (1, gives is-false) ∷ (2, gives is-false) ∷ (3, gives is-true) ∷ (4, gives is-undefined) ∷ (5, gives is-false) ∷ [];
       answers = asks 0 false T false ∷ asks 0 false TU false ∷ asks 0 true T true ∷ asks 0 true TU true ∷ asks 2 false T false ∷ asks 2 false TU false ∷ asks 2 true T true ∷ asks 2 true TU true ∷ asks 4 false T false ∷ asks 4 false TU true ∷ asks 4 true T false ∷ asks 4 true TU true ∷ [];
     }
 
@@ -134,7 +138,7 @@ case-7 =
     record {
       calls = load file-7 ∷ [];
       listing = 109 ∷ 111 ∷ 100 ∷ 101 ∷ 108 ∷ 44 ∷ 50 ∷ 44 ∷ 49 ∷ 44 ∷ 48 ∷ 44 ∷ 49 ∷ 10 ∷ 48 ∷ 44 ∷ 97 ∷ 44 ∷ 116 ∷ 114 ∷ 117 ∷ 101 ∷ 44 ∷ 102 ∷ 97 ∷ 108 ∷ 115 ∷ 101 ∷ 10 ∷ 49 ∷ 44 ∷ 98 ∷ 44 ∷ 102 ∷ 97 ∷ 108 ∷ 115 ∷ 101 ∷ 44 ∷ 102 ∷ 97 ∷ 108 ∷ 115 ∷ 101 ∷ 10 ∷ [];
-      verdicts = (0, is-true) ∷ (1, is-false) ∷ (2, is-false) ∷ (3, is-false) ∷ [];
+      verdicts = (0, gives is-true) ∷ (1, gives is-false) ∷ (2, gives is-false) ∷ (3, gives is-false) ∷ [];
       answers = asks 0 false T true ∷ asks 0 false TU true ∷ asks 0 true T false ∷ asks 0 true TU false ∷ [];
     }
 
@@ -148,7 +152,7 @@ case-8 =
     record {
       calls = load file-8 ∷ [];
       listing = 109 ∷ 111 ∷ 100 ∷ 101 ∷ 108 ∷ 44 ∷ 49 ∷ 44 ∷ 49 ∷ 44 ∷ 48 ∷ 44 ∷ 49 ∷ 10 ∷ 48 ∷ 44 ∷ 97 ∷ 44 ∷ 102 ∷ 97 ∷ 108 ∷ 115 ∷ 101 ∷ 44 ∷ 116 ∷ 114 ∷ 117 ∷ 101 ∷ 10 ∷ [];
-      verdicts = (0, is-false) ∷ (1, is-true) ∷ [];
+      verdicts = (0, gives is-false) ∷ (1, gives is-true) ∷ [];
       answers = asks 0 false T false ∷ asks 0 false TU false ∷ asks 0 true T true ∷ asks 0 true TU true ∷ asks 1 false T true ∷ asks 1 false TU true ∷ asks 1 true T false ∷ asks 1 true TU false ∷ [];
     }
 
@@ -162,7 +166,7 @@ case-9 =
     record {
       calls = load file-9 ∷ [];
       listing = 109 ∷ 111 ∷ 100 ∷ 101 ∷ 108 ∷ 44 ∷ 49 ∷ 44 ∷ 50 ∷ 44 ∷ 48 ∷ 44 ∷ 48 ∷ 10 ∷ 48 ∷ 44 ∷ 97 ∷ 44 ∷ 117 ∷ 110 ∷ 100 ∷ 101 ∷ 102 ∷ 105 ∷ 110 ∷ 101 ∷ 100 ∷ 44 ∷ 117 ∷ 110 ∷ 100 ∷ 101 ∷ 102 ∷ 105 ∷ 110 ∷ 101 ∷ 100 ∷ 10 ∷ [];
-      verdicts = (0, is-undefined) ∷ (1, is-undefined) ∷ [];
+      verdicts = (0, gives is-undefined) ∷ (1, gives is-undefined) ∷ [];
       answers = asks 0 false T false ∷ asks 0 false TU true ∷ asks 0 true T false ∷ asks 0 true TU true ∷ asks 1 false T false ∷ asks 1 false TU true ∷ asks 1 true T false ∷ asks 1 true TU true ∷ [];
     }
 
@@ -190,13 +194,13 @@ case-no-bytes =
       answers = [];
     }
 
--- 11, put in: lists contradiction,2,3,1,2,a
+-- 11, put in: lists contradiction,2,3,1,2,a / 0,a,contradictory,contradictory / 1,b,contradictory,contradictory
 abbrev case-11-put-in : Case
 case-11-put-in =
     record {
       calls = load file-5 ∷ change (PutIn 0) ∷ [];
-      listing = 99 ∷ 111 ∷ 110 ∷ 116 ∷ 114 ∷ 97 ∷ 100 ∷ 105 ∷ 99 ∷ 116 ∷ 105 ∷ 111 ∷ 110 ∷ 44 ∷ 50 ∷ 44 ∷ 51 ∷ 44 ∷ 49 ∷ 44 ∷ 50 ∷ 44 ∷ 97 ∷ 10 ∷ [];
-      verdicts = [];
+      listing = 99 ∷ 111 ∷ 110 ∷ 116 ∷ 114 ∷ 97 ∷ 100 ∷ 105 ∷ 99 ∷ 116 ∷ 105 ∷ 111 ∷ 110 ∷ 44 ∷ 50 ∷ 44 ∷ 51 ∷ 44 ∷ 49 ∷ 44 ∷ 50 ∷ 44 ∷ 97 ∷ 10 ∷ 48 ∷ 44 ∷ 97 ∷ 44 ∷ 99 ∷ 111 ∷ 110 ∷ 116 ∷ 114 ∷ 97 ∷ 100 ∷ 105 ∷ 99 ∷ 116 ∷ 111 ∷ 114 ∷ 121 ∷ 44 ∷ 99 ∷ 111 ∷ 110 ∷ 116 ∷ 114 ∷ 97 ∷ 100 ∷ 105 ∷ 99 ∷ 116 ∷ 111 ∷ 114 ∷ 121 ∷ 10 ∷ 49 ∷ 44 ∷ 98 ∷ 44 ∷ 99 ∷ 111 ∷ 110 ∷ 116 ∷ 114 ∷ 97 ∷ 100 ∷ 105 ∷ 99 ∷ 116 ∷ 111 ∷ 114 ∷ 121 ∷ 44 ∷ 99 ∷ 111 ∷ 110 ∷ 116 ∷ 114 ∷ 97 ∷ 100 ∷ 105 ∷ 99 ∷ 116 ∷ 111 ∷ 114 ∷ 121 ∷ 10 ∷ [];
+      verdicts = (2, refused 24) ∷ [];
       answers = asks 0 false T true ∷ [];
     }
 
@@ -206,7 +210,7 @@ case-11-taken-out =
     record {
       calls = load file-5 ∷ change (PutIn 0) ∷ change (TakeOut 0) ∷ [];
       listing = 109 ∷ 111 ∷ 100 ∷ 101 ∷ 108 ∷ 44 ∷ 50 ∷ 44 ∷ 51 ∷ 44 ∷ 48 ∷ 44 ∷ 50 ∷ 10 ∷ 48 ∷ 44 ∷ 97 ∷ 44 ∷ 102 ∷ 97 ∷ 108 ∷ 115 ∷ 101 ∷ 44 ∷ 116 ∷ 114 ∷ 117 ∷ 101 ∷ 10 ∷ 49 ∷ 44 ∷ 98 ∷ 44 ∷ 116 ∷ 114 ∷ 117 ∷ 101 ∷ 44 ∷ 102 ∷ 97 ∷ 108 ∷ 115 ∷ 101 ∷ 10 ∷ [];
-      verdicts = (0, is-false) ∷ (1, is-true) ∷ (2, is-true) ∷ (3, is-false) ∷ [];
+      verdicts = (0, gives is-false) ∷ (1, gives is-true) ∷ (2, gives is-true) ∷ (3, gives is-false) ∷ [];
       answers = asks 0 false T false ∷ asks 0 false TU false ∷ asks 0 true T true ∷ asks 0 true TU true ∷ asks 2 false T true ∷ asks 2 false TU true ∷ asks 2 true T false ∷ asks 2 true TU false ∷ [];
     }
 
@@ -220,7 +224,7 @@ case-capitals =
     record {
       calls = load file-capitals ∷ [];
       listing = 109 ∷ 111 ∷ 100 ∷ 101 ∷ 108 ∷ 44 ∷ 50 ∷ 44 ∷ 49 ∷ 44 ∷ 48 ∷ 44 ∷ 49 ∷ 10 ∷ 48 ∷ 44 ∷ 66 ∷ 114 ∷ 97 ∷ 107 ∷ 101 ∷ 95 ∷ 72 ∷ 101 ∷ 108 ∷ 100 ∷ 44 ∷ 102 ∷ 97 ∷ 108 ∷ 115 ∷ 101 ∷ 44 ∷ 102 ∷ 97 ∷ 108 ∷ 115 ∷ 101 ∷ 10 ∷ 49 ∷ 44 ∷ 103 ∷ 101 ∷ 97 ∷ 114 ∷ 95 ∷ 50 ∷ 44 ∷ 116 ∷ 114 ∷ 117 ∷ 101 ∷ 44 ∷ 102 ∷ 97 ∷ 108 ∷ 115 ∷ 101 ∷ 10 ∷ [];
-      verdicts = (0, is-false) ∷ (1, is-false) ∷ (2, is-true) ∷ (3, is-false) ∷ [];
+      verdicts = (0, gives is-false) ∷ (1, gives is-false) ∷ (2, gives is-true) ∷ (3, gives is-false) ∷ [];
       answers = asks 0 true T true ∷ asks 2 false T true ∷ asks 2 true TU false ∷ [];
     }
 
@@ -228,16 +232,30 @@ case-capitals =
 abbrev file-rounds : List ℕ
 file-rounds = 110 ∷ 97 ∷ 109 ∷ 101 ∷ 44 ∷ 97 ∷ 10 ∷ 110 ∷ 97 ∷ 109 ∷ 101 ∷ 44 ∷ 98 ∷ 10 ∷ 114 ∷ 117 ∷ 108 ∷ 101 ∷ 44 ∷ 97 ∷ 10 ∷ 114 ∷ 117 ∷ 108 ∷ 101 ∷ 44 ∷ 98 ∷ 44 ∷ 126 ∷ 45 ∷ 97 ∷ 10 ∷ 114 ∷ 117 ∷ 108 ∷ 101 ∷ 44 ∷ 45 ∷ 97 ∷ 44 ∷ 126 ∷ 45 ∷ 98 ∷ 10 ∷ 114 ∷ 117 ∷ 108 ∷ 101 ∷ 44 ∷ 45 ∷ 98 ∷ 44 ∷ 126 ∷ 97 ∷ 10 ∷ 114 ∷ 117 ∷ 108 ∷ 101 ∷ 44 ∷ 98 ∷ 44 ∷ 126 ∷ 45 ∷ 98 ∷ 10 ∷ 114 ∷ 117 ∷ 108 ∷ 101 ∷ 44 ∷ 45 ∷ 97 ∷ 44 ∷ 126 ∷ 97 ∷ 10 ∷ 114 ∷ 117 ∷ 108 ∷ 101 ∷ 44 ∷ 45 ∷ 98 ∷ 44 ∷ 126 ∷ 98 ∷ 10 ∷ 101 ∷ 110 ∷ 100 ∷ 10 ∷ []
 
--- as many rounds as distinct heads: lists contradiction,2,7,0,4,a
+-- as many rounds as distinct heads: lists contradiction,2,7,0,4,a / 0,a,contradictory,contradictory / 1,b,contradictory,contradictory
 abbrev case-rounds : Case
 case-rounds =
     record {
       calls = load file-rounds ∷ [];
-      listing = 99 ∷ 111 ∷ 110 ∷ 116 ∷ 114 ∷ 97 ∷ 100 ∷ 105 ∷ 99 ∷ 116 ∷ 105 ∷ 111 ∷ 110 ∷ 44 ∷ 50 ∷ 44 ∷ 55 ∷ 44 ∷ 48 ∷ 44 ∷ 52 ∷ 44 ∷ 97 ∷ 10 ∷ [];
+      listing = 99 ∷ 111 ∷ 110 ∷ 116 ∷ 114 ∷ 97 ∷ 100 ∷ 105 ∷ 99 ∷ 116 ∷ 105 ∷ 111 ∷ 110 ∷ 44 ∷ 50 ∷ 44 ∷ 55 ∷ 44 ∷ 48 ∷ 44 ∷ 52 ∷ 44 ∷ 97 ∷ 10 ∷ 48 ∷ 44 ∷ 97 ∷ 44 ∷ 99 ∷ 111 ∷ 110 ∷ 116 ∷ 114 ∷ 97 ∷ 100 ∷ 105 ∷ 99 ∷ 116 ∷ 111 ∷ 114 ∷ 121 ∷ 44 ∷ 99 ∷ 111 ∷ 110 ∷ 116 ∷ 114 ∷ 97 ∷ 100 ∷ 105 ∷ 99 ∷ 116 ∷ 111 ∷ 114 ∷ 121 ∷ 10 ∷ 49 ∷ 44 ∷ 98 ∷ 44 ∷ 99 ∷ 111 ∷ 110 ∷ 116 ∷ 114 ∷ 97 ∷ 100 ∷ 105 ∷ 99 ∷ 116 ∷ 111 ∷ 114 ∷ 121 ∷ 44 ∷ 99 ∷ 111 ∷ 110 ∷ 116 ∷ 114 ∷ 97 ∷ 100 ∷ 105 ∷ 99 ∷ 116 ∷ 111 ∷ 114 ∷ 121 ∷ 10 ∷ [];
       verdicts = [];
       answers = [];
     }
 
+-- name,a / name,b / name,c / name,d / rule,a / rule,-a / rule,b,~a / rule,c / rule,a,d / end
+abbrev file-one-bad-name : List ℕ
+file-one-bad-name = 110 ∷ 97 ∷ 109 ∷ 101 ∷ 44 ∷ 97 ∷ 10 ∷ 110 ∷ 97 ∷ 109 ∷ 101 ∷ 44 ∷ 98 ∷ 10 ∷ 110 ∷ 97 ∷ 109 ∷ 101 ∷ 44 ∷ 99 ∷ 10 ∷ 110 ∷ 97 ∷ 109 ∷ 101 ∷ 44 ∷ 100 ∷ 10 ∷ 114 ∷ 117 ∷ 108 ∷ 101 ∷ 44 ∷ 97 ∷ 10 ∷ 114 ∷ 117 ∷ 108 ∷ 101 ∷ 44 ∷ 45 ∷ 97 ∷ 10 ∷ 114 ∷ 117 ∷ 108 ∷ 101 ∷ 44 ∷ 98 ∷ 44 ∷ 126 ∷ 97 ∷ 10 ∷ 114 ∷ 117 ∷ 108 ∷ 101 ∷ 44 ∷ 99 ∷ 10 ∷ 114 ∷ 117 ∷ 108 ∷ 101 ∷ 44 ∷ 97 ∷ 44 ∷ 100 ∷ 10 ∷ 101 ∷ 110 ∷ 100 ∷ 10 ∷ []
+
+-- one bad name, and one that reaches it: lists contradiction,4,5,0,2,a / 0,a,contradictory,contradictory / 1,b,contradictory,contradictory / 2,c,true,false / 3,d,false,false
+abbrev case-one-bad-name : Case
+case-one-bad-name =
+    record {
+      calls = load file-one-bad-name ∷ [];
+      listing = 99 ∷ 111 ∷ 110 ∷ 116 ∷ 114 ∷ 97 ∷ 100 ∷ 105 ∷ 99 ∷ 116 ∷ 105 ∷ 111 ∷ 110 ∷ 44 ∷ 52 ∷ 44 ∷ 53 ∷ 44 ∷ 48 ∷ 44 ∷ 50 ∷ 44 ∷ 97 ∷ 10 ∷ 48 ∷ 44 ∷ 97 ∷ 44 ∷ 99 ∷ 111 ∷ 110 ∷ 116 ∷ 114 ∷ 97 ∷ 100 ∷ 105 ∷ 99 ∷ 116 ∷ 111 ∷ 114 ∷ 121 ∷ 44 ∷ 99 ∷ 111 ∷ 110 ∷ 116 ∷ 114 ∷ 97 ∷ 100 ∷ 105 ∷ 99 ∷ 116 ∷ 111 ∷ 114 ∷ 121 ∷ 10 ∷ 49 ∷ 44 ∷ 98 ∷ 44 ∷ 99 ∷ 111 ∷ 110 ∷ 116 ∷ 114 ∷ 97 ∷ 100 ∷ 105 ∷ 99 ∷ 116 ∷ 111 ∷ 114 ∷ 121 ∷ 44 ∷ 99 ∷ 111 ∷ 110 ∷ 116 ∷ 114 ∷ 97 ∷ 100 ∷ 105 ∷ 99 ∷ 116 ∷ 111 ∷ 114 ∷ 121 ∷ 10 ∷ 50 ∷ 44 ∷ 99 ∷ 44 ∷ 116 ∷ 114 ∷ 117 ∷ 101 ∷ 44 ∷ 102 ∷ 97 ∷ 108 ∷ 115 ∷ 101 ∷ 10 ∷ 51 ∷ 44 ∷ 100 ∷ 44 ∷ 102 ∷ 97 ∷ 108 ∷ 115 ∷ 101 ∷ 44 ∷ 102 ∷ 97 ∷ 108 ∷ 115 ∷ 101 ∷ 10 ∷ [];
+      verdicts = (0, refused 24) ∷ (2, refused 24) ∷ (3, refused 24) ∷ (4, gives is-true) ∷ (5, gives is-false) ∷ (6, gives is-false) ∷ (8, refused 21) ∷ [];
+      answers = asks 0 false T true ∷ asks 0 true T true ∷ asks 2 false T true ∷ asks 2 false TU false ∷ asks 4 false T true ∷ [];
+    }
+
 abbrev pub cases : List Case
 cases =
-    case-1 ∷ case-2 ∷ case-3 ∷ case-4 ∷ case-5 ∷ case-6 ∷ case-7 ∷ case-8 ∷ case-9 ∷ case-10 ∷ case-no-bytes ∷ case-11-put-in ∷ case-11-taken-out ∷ case-capitals ∷ case-rounds ∷ []
+    case-1 ∷ case-2 ∷ case-3 ∷ case-4 ∷ case-5 ∷ case-6 ∷ case-7 ∷ case-8 ∷ case-9 ∷ case-10 ∷ case-no-bytes ∷ case-11-put-in ∷ case-11-taken-out ∷ case-capitals ∷ case-rounds ∷ case-one-bad-name ∷ []

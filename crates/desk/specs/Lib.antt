@@ -5,3 +5,4 @@ pub mod Cases
 pub mod Spelling
 pub mod Rounds
 pub mod Groups
+pub mod Reached

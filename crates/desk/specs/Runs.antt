@@ -1,5 +1,5 @@
 -- The calls of a desk, each as one record: what a list of them leaves by its arguments alone (document 01, "What a list of calls leaves"), and what a run
--- of it is. Then what the three demands, and request A.14 of document 02, say of a reply.
+-- of it is. Then what the three demands, and requests A.7 and A.14 of document 02, say of a reply.
 use mathlib.Core.Path.{_≡_}
 use mathlib.Core.Logic.{_↔_}
 use mathlib.Core.Bool.{Bool, true, false}
@@ -10,6 +10,8 @@ use Rattle.wfsx.specs.Sets.{Set, _∈_, _∉_, _⊆_, _∖_}
 use Rattle.wfsx.specs.Program.{Program}
 use Rattle.wfsx.specs.Model.{M, N, PartialStable, valueIn}
 use Rattle.wfsx.specs.Model as wfsx
+use Rattle.wfsx.specs.Reach.{nameOf, reachedRules}
+use Rattle.wfsx.specs.ContradictoryNames.{ContradictoryName}
 use Rattle.wfsx.specs.AnswerSets.{AnswerSet, Accords}
 use Rattle.wfsx.specs.Trees.{Tree, T, TU}
 use Rattle.litset.specs.Words.{setOf}
@@ -137,15 +139,28 @@ pub record Due (P : Program) (k : Tree) (default : Bool) (A : ℕ) (said : Said 
   pub yes-exactly : (said ≡ gives true) ↔ IsDue P k default A
   pub else-no : (IsDue P k default A → ⊥) → said ≡ gives false
 
--- demand 2: the verdict of a literal of the book is its value in the least partial stable model
+-- the least partial stable model of P, and v is the value of the literal in it
 pub record ModelVerdict (base : Set) (P : Program) (A : ℕ) (v : wfsx.Verdict) : Type 0 where
   pub stable : PartialStable P base (M P) (base ∖ N P)
   pub least : (S F : Set) → PartialStable P base S F → (M P ⊆ S) × (base ∖ N P ⊆ F)
   pub value : v ≡ valueIn (M P) (base ∖ N P) A
 
+-- a verdict is given, and it is that value
+abbrev pub GivesValue : Set → Program → ℕ → Said wfsx.Verdict → Type 0
+GivesValue base P A said = (v : wfsx.Verdict) × (said ≡ gives v) × ModelVerdict base P A v
+
+-- Demand 2, for a literal of the book (document 02, A.7): agreement with the published definition is read over the rules for the names that its name
+-- reaches.
 pub record VerdictDue (d : State) (A : ℕ) (said : Said wfsx.Verdict) : Type 0 where
-  pub refused-24 : (said ≡ refused 24) ↔ ContradictoryOver (inBook (d .book)) d
-  pub given : (ContradictoryOver (inBook (d .book)) d → ⊥) → (v : wfsx.Verdict) × (said ≡ gives v) × ModelVerdict (inBook (d .book)) (programIn d) A v
+  -- 24 is given exactly where the name, or a name it reaches, has both literals in M, and every other verdict is read from M and N
+  pub refused-24 : (said ≡ refused 24) ↔ ContradictoryName (programIn d) (nameOf A)
+  pub read : (ContradictoryName (programIn d) (nameOf A) → ⊥) → said ≡ gives (wfsx.verdict (programIn d) A)
+  -- that is exactly where these rules have no partial stable model; otherwise they have a least one, and the verdict is the value in it
+  pub without-model : (said ≡ refused 24) ↔ wfsx.Contradictory (reachedRules (programIn d) (nameOf A)) (inBook (d .book))
+  pub with-model : (wfsx.Contradictory (reachedRules (programIn d) (nameOf A)) (inBook (d .book)) → ⊥)
+      → GivesValue (inBook (d .book)) (reachedRules (programIn d) (nameOf A)) A said
+  -- of a lesson that is not contradictory all verdicts are given, and they are those of the whole program, as document 01 has it
+  pub whole : (ContradictoryOver (inBook (d .book)) d → ⊥) → GivesValue (inBook (d .book)) (programIn d) A said
 
 -- whether the lesson is contradictory is said as it is
 pub record ConsistencyDue (d : State) (said : Said Bool) : Type 0 where

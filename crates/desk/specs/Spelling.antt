@@ -7,7 +7,7 @@ use Rattle.wfsx.specs.Sets.{_isIn_}
 use Rattle.wfsx.specs.Program.{Rule}
 use Rattle.wfsx.specs.Model.{M}
 use Rattle.litset.specs.Words.{clashIn}
-use Rattle.litset.specs.declared.Clash.the-variants.{None, Name}
+use Rattle.litset.specs.declared.Clash.the-variants.{Name}
 use Rattle.scan.specs.Text.{fields}
 use Rattle.scan.specs.declared.Alphabet.the-variants.{EitherCase}
 use Rattle.reader.specs.File.{accepted, linesOf, readFile}
@@ -29,7 +29,7 @@ pub record Spelled (cs : List Call) (names : List (List ℕ)) (rules : List Rule
   pub file : List ℕ
   pub is-loaded : load file isIn cs
   pub read-as : readFile EitherCase file ≡ accepted names rules
-  -- No name has both literals in M: line 0 of the listing is the header, and field 1 of line k + 1 is name k as the file declares it.
-  pub in-its-line : clashIn (M (programIn (left cs))) ≡ None → (k : ℕ) → k < length names → fieldAt (listingIn (left cs)) (k + 1) 1 ≡ declaringField file k
+  -- Line 0 of the listing is the header, and field 1 of line k + 1 is name k as the file declares it.
+  pub in-its-line : (k : ℕ) → k < length names → fieldAt (listingIn (left cs)) (k + 1) 1 ≡ declaringField file k
   -- Name n is the lowest-numbered with both literals in M: field 5 of the header is name n as the file declares it.
   pub in-the-header : (n : ℕ) → clashIn (M (programIn (left cs))) ≡ Name n → (n < length names) × (fieldAt (listingIn (left cs)) 0 5 ≡ declaringField file n)

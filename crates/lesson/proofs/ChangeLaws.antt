@@ -3,13 +3,14 @@ use mathlib.Core.Path.{_≡_, refl, sym, _∙_, ap}
 use mathlib.Core.Bool.{Bool, true, false, and-false, true≢false}
 use mathlib.Core.Logic.{inr}
 use Prim.Native.Nat.{ℕ}
+use native.Mathlib.Omega.{arith}
+use lib.ListN.{length}
 use borrow.Author.Tests.{eq-eqb, lt-ltb}
 use Rattle.wfsx.specs.Sets.{Set, add}
 use Rattle.litset.specs.Words.{capacity, without}
 use Rattle.litset.proofs.Made.{words-for}
 use Rattle.litset.proofs.Words.{without-at}
-use Rattle.fixpoint.proofs.Published.{model-exists}
-use Rattle.lesson.specs.State.{inForce, programIn, Said, gives, refused, Ack, acknowledged, itsLiteral, changeFits, changeSays, changedSet, changed, ownAfter}
+use Rattle.lesson.specs.State.{itsNames, inForce, programIn, Said, gives, refused, Ack, acknowledged, itsLiteral, changeFits, changeSays, changedSet, changed, ownAfter}
 use Rattle.lesson.specs.Calls.{shelfOf, ownOf, meaningOf, changeSaid, LessonAfter, Changes}
 use Rattle.lesson.specs.declared.Shelf.{Shelf}
 use Rattle.lesson.specs.declared.Lesson.{Lesson}
@@ -19,6 +20,7 @@ use Rattle.lesson.specs.declared.ChangeReply.{ChangeReply}
 use Rattle.lesson.specs.declared.ChangeAnswer.{ChangeAnswer}
 use Rattle.lesson.specs.declared.ChangeAnswer.the-variants as change
 use Rattle.lesson.proofs.Order.{given-refused, given-inside, inside}
+use Rattle.lesson.proofs.Marks.{marks-exist}
 use Rattle.lesson.proofs.Sound.{Sound, sound-change, book-in-room, heads-in-room}
 
 module _ (s : Shelf) (l : Lesson) (c : Change) where
@@ -69,11 +71,12 @@ change-exists s l c sound = go (changeSays (meaningOf s l) c) refl
         let at = given-inside (shelfOf s) (itsLiteral c) _ acknowledged e in
         let other = differs c (ownOf l .putIn) (sym (inside (shelfOf s) (itsLiteral c) _ (at .0) (at .1)) ∙ e) in
         let facts = words-for (own .putIn) (λ A h. lt-ltb A capacity (book-in-room _ after A (after .facts-known A h))) in
-        let m = model-exists (programIn (record { book = shelfOf s; own = own })) (heads-in-room _ after) in (
-          record { answer = change.Done; lesson = record { facts = facts .0; model = m .0 } },
+        let few = after .few-names in
+        let m = marks-exist (length (itsNames (shelfOf s))) (programIn (record { book = shelfOf s; own = own })) (omega arith) (heads-in-room _ after) in (
+          record { answer = change.Done; lesson = record { facts = facts .0; marks = m .0 } },
           record {
             says = sym e;
-            leaves = record { own-is = ap (λ (S : Set). record { putIn = S }) (facts .2); model-is = inr (other, m .1) };
+            leaves = record { own-is = ap (λ (S : Set). record { putIn = S }) (facts .2); marks-are = inr (other, m .1) };
           },
         )
 

@@ -3,7 +3,8 @@ use mathlib.Core.Path.{_≡_, refl}
 use mathlib.Core.Bool.{Bool, true, false, cond}
 use mathlib.Core.List.{List}
 use Prim.Native.Nat.{ℕ}
-use lib.ListN.{replicate}
+use native.Mathlib.Omega.{arith}
+use lib.ListN.{length, replicate}
 use Rattle.wfsx.specs.Sets.{∅}
 use Rattle.wfsx.specs.Program.{Entry, Program}
 use Rattle.wfsx.specs.Model as wfsx
@@ -11,15 +12,18 @@ use Rattle.wfsx.specs.Trees.{Tree}
 use Rattle.litset.specs.Words.{nWords, setOf}
 use Rattle.litset.specs.declared.LitSet.{LitSet}
 use Rattle.litset.proofs.Words.{set-zeros}
-use Rattle.book.specs.Book.{programOf}
+use Rattle.book.specs.Limits.{maxNames}
+use Rattle.book.specs.Book.{namesOf, programOf}
 use Rattle.book.specs.declared.Book.{Book}
+use Rattle.book.proofs.Counts.{clamp-most}
 use Rattle.book.proofs.Heads.{program-heads}
+use Rattle.book.proofs.Names.{names-counted}
 use Rattle.fixpoint.specs.declared.Verdict.the-variants.{True, False, Undefined}
 use Rattle.fixpoint.specs.declared.Values.{Values}
 use Rattle.reach.specs.Order.{orderTable}
 use Rattle.fixpoint.proofs.Published.{model-exists}
 use Rattle.lesson.specs.State.{BookState, noneLoaded, inForce, programIn, Said, gives, refused, Ack, acknowledged, ifLoaded, searchSays, verdictSays, modelSays, whereLoaded, orderIn, listingSays, bufferAfter}
-use Rattle.lesson.specs.Calls.{shelfOf, ownOf, meaningOf, truthsOf, nonfalseOf, Begins, verdictSaid, GivesVerdict, searchSaid, Searches, modelSaid, GivesModel, orderSaid, GivesOrder, GivesGroups, listingSaid, bytesOf, Lists}
+use Rattle.lesson.specs.Calls.{shelfOf, ownOf, meaningOf, truthsOf, nonfalseOf, contradictoryOf, Begins, verdictSaid, GivesVerdict, searchSaid, Searches, modelSaid, GivesModel, orderSaid, GivesOrder, GivesGroups, listingSaid, bytesOf, Lists}
 use Rattle.lesson.specs.declared.Shelf.{Shelf}
 use Rattle.lesson.specs.declared.Lesson.{Lesson}
 use Rattle.lesson.specs.declared.VerdictAnswer.{VerdictAnswer}
@@ -36,14 +40,16 @@ use Rattle.lesson.specs.declared.GroupsReply.{GroupsReply}
 use Rattle.lesson.specs.declared.ListingAnswer.{ListingAnswer}
 use Rattle.lesson.specs.declared.ListingAnswer.the-variants as listing
 use Rattle.lesson.proofs.Meaning.{program-is}
+use Rattle.lesson.proofs.Marks.{marks-exist}
 
 abbrev none : LitSet
 none = record { words = replicate nWords 0 }
 
 pub begin-exists : (b : Book) → (l : Lesson) × Begins b l
 begin-exists b =
-    let m = model-exists (programOf b (setOf (none .words))) (program-heads b (setOf (none .words))) in
-    (record { facts = none; model = m .0 }, record { none-put-in = set-zeros nWords; model-is = m .1 })
+    let few = clamp-most maxNames (b .names) in
+    let m = marks-exist (length (namesOf b)) (programOf b (setOf (none .words))) (omega (arith, names-counted b)) (program-heads b (setOf (none .words))) in
+    (record { facts = none; marks = m .0 }, record { none-put-in = set-zeros nWords; marks-are = m .1 })
 
 verdict-for : (said : Said wfsx.Verdict) → (a : VerdictAnswer) × (verdictSaid a ≡ said)
 verdict-for (gives wfsx.is-true) = (verdict.Given True, refl)
@@ -95,7 +101,7 @@ values-for s l = go (noneLoaded (shelfOf s)) refl
 module _ (s : Shelf) (l : Lesson) where
   pub verdict-exists : (A : ℕ) → (r : VerdictAnswer) × GivesVerdict s l A r
   verdict-exists A =
-      let w = verdict-for (verdictSays (shelfOf s) (truthsOf l) (nonfalseOf l) A) in
+      let w = verdict-for (verdictSays (shelfOf s) (truthsOf l) (nonfalseOf l) (contradictoryOf l) A) in
       (w .0, record { says = w .1 })
 
   pub search-exists : (A : ℕ) (k : Tree) (question : Entry) → (r : SearchAnswer) × Searches s l A k question r
@@ -104,9 +110,9 @@ module _ (s : Shelf) (l : Lesson) where
   pub model-reply-exists : (r : ModelReply) × GivesModel s l r
   model-reply-exists =
       let w = model-for (modelSays (shelfOf s) (truthsOf l)) in
-      let T = set-for (shelfOf s) (l .model .truths) in
-      let U = set-for (shelfOf s) (l .model .nonfalse) in
-      let k = whereLoaded (shelfOf s) (l .model .rounds) 0 in
+      let T = set-for (shelfOf s) (l .marks .model .truths) in
+      let U = set-for (shelfOf s) (l .marks .model .nonfalse) in
+      let k = whereLoaded (shelfOf s) (l .marks .model .rounds) 0 in
       (record { answer = w .0; model = record { truths = T .0; nonfalse = U .0; rounds = k } }, record { says = w .1; truths = T .1; nonfalse = U .1; rounds = refl })
 
   pub order-exists : (r : OrderReply) × GivesOrder s r

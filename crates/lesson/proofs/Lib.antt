@@ -2,6 +2,7 @@
 pub mod Order
 pub mod WithBook
 pub mod Meaning
+pub mod Marks
 pub mod Replies
 pub mod Sound
 pub mod Standing

@@ -17,12 +17,10 @@ use Rattle.litset.specs.Words.{capacity, setOf, with, without, clashIn}
 use Rattle.litset.specs.declared.LitSet.{LitSet}
 use Rattle.litset.proofs.Words.{with-room}
 use Rattle.litset.specs.declared.Clash.{Clash}
-use Rattle.litset.specs.declared.Clash.the-variants as clash
 use Rattle.book.specs.Limits.{maxNames}
-use Rattle.book.specs.Book.{clamp, rulesOf, programOf}
+use Rattle.book.specs.Book.{clamp, namesOf, rulesOf, programOf}
 use Rattle.book.proofs.Names.{names-counted}
 use Rattle.fixpoint.specs.Result.{verdictIs, verdictIn}
-use Rattle.fixpoint.specs.declared.Model.{Model}
 use Rattle.fixpoint.specs.declared.Values.{Values}
 use Rattle.fixpoint.specs.declared.Verdict.{Verdict}
 use Rattle.reach.specs.Order.{orderTable}
@@ -30,12 +28,13 @@ use Rattle.reach.specs.declared.Order.{Order}
 use Rattle.groups.specs.Whole.{WholeOf}
 use Rattle.lister.specs.Listing as lister
 use Rattle.lister.specs.Buffer.{Writes}
+use Rattle.lister.specs.declared.Marks.{Marks}
 use Rattle.lister.specs.declared.Written.{Written}
 use Rattle.lister.specs.declared.Written.the-variants.{Length, Short}
 use Rattle.lister.proofs.Calls.{was-written, was-short}
 use Rattle.lister.proofs.Lines.{listing-room}
-use Rattle.lesson.specs.State.{inForce, Said, gives, refused, Ack, acknowledged, noneLoaded, inOrder, itsLiteral, changeFits, changeSays, changedSet, changed, searchSays, unlessClash, verdictSays, isClash, modelSays, whereLoaded, programIn, orderIn, listingFrom, listingSays}
-use Rattle.lesson.specs.Calls.{shelfOf, ownOf, meaningOf, truthsOf, nonfalseOf, numberSays, ModelAfter, Changes, GivesVerdict, Searches, modelSaid, GivesModel, GivesOrder, GivesGroups, bytesOf, Lists}
+use Rattle.lesson.specs.State.{BookState, itsNames, inForce, Said, gives, refused, Ack, acknowledged, noneLoaded, inOrder, itsLiteral, changeFits, changeSays, changedSet, changed, searchSays, verdictSays, isClash, modelSays, whereLoaded, programIn, orderIn, listingFrom, listingSays}
+use Rattle.lesson.specs.Calls.{shelfOf, ownOf, meaningOf, truthsOf, nonfalseOf, contradictoryOf, numberSays, MarksAfter, Changes, GivesVerdict, Searches, modelSaid, GivesModel, GivesOrder, GivesGroups, bytesOf, Lists}
 use Rattle.lesson.specs.declared.Shelf.{Shelf}
 use Rattle.lesson.specs.declared.Lesson.{Lesson}
 use Rattle.lesson.specs.declared.Change.{Change}
@@ -48,7 +47,7 @@ use Rattle.lesson.specs.declared.ModelAnswer.the-variants as model
 use Rattle.lesson.specs.declared.OrderAnswer.the-variants as order
 use Rattle.lesson.specs.declared.ListingAnswer.the-variants as listing
 use Rattle.lesson.proofs.Order.{unloaded-says, loaded-says, given-inside, number-refused, number-given, turned-down, state-passed, passed}
-use Rattle.lesson.proofs.Meaning.{shelf-empty, shelf-loaded, none-loaded-is, loaded-is, inside-room, program-is}
+use Rattle.lesson.proofs.Meaning.{shelf-empty, shelf-loaded, shelf-is, none-loaded-is, loaded-is, inside-room, program-is}
 
 -- ---- the lesson
 
@@ -99,19 +98,20 @@ module _ (s : Shelf) (l : Lesson) (c : Change) (n : ℕ) (e : numberSays n ≡ c
     pub change-room : itsLiteral c < capacity
     change-room = accepted .1
 
-    pub change-done : (facts : LitSet) (m : Model) → setOf (facts .words) ≡ changedSet c (setOf (l .facts .words))
-        → (F : Set) → F ≡ inForce (ownOf (record { facts = facts; model = l .model })) → ModelAfter l F (programOf (s .book) F) m
-        → Changes s l c (record { answer = change.Done; lesson = record { facts = facts; model = m } })
+    pub change-done : (facts : LitSet) (m : Marks) → setOf (facts .words) ≡ changedSet c (setOf (l .facts .words))
+        → (F : Set) → F ≡ inForce (ownOf (record { facts = facts; marks = l .marks })) → MarksAfter l F (length (namesOf (s .book))) (programOf (s .book) F) m
+        → Changes s l c (record { answer = change.Done; lesson = record { facts = facts; marks = m } })
     unfolding ownOf
     change-done facts m is F force after =
-        let own = own-with (record { facts = facts; model = m }) _ is in
+        let own = own-with (record { facts = facts; marks = m }) _ is in
         let same : F ≡ inForce (changed c (ownOf l)) = force ∙ ap inForce own in
+        let names : length (namesOf (s .book)) ≡ length (itsNames (shelfOf s)) = sym (ap (λ (b : BookState). length (itsNames b)) (shelf-is s (accepted .0))) in
         record {
           says = sym (number-given n z) ∙ e;
           leaves =
               record {
                 own-is = own;
-                model-is = rw (program-is s (accepted .0) (changed c (ownOf l))) at (rw same at after);
+                marks-are = rw (program-is s (accepted .0) (changed c (ownOf l)), names) at (rw same at after);
               };
         }
 
@@ -138,16 +138,17 @@ module _ (s : Shelf) (l : Lesson) (A n : ℕ) (e : numberSays n ≡ inOrder (she
               ∙ sym (passed (shelfOf s) A n e _ z);
         }
 
-    module _ (found : Clash) (f : found ≡ clashIn (truthsOf l)) where
-      says-by : (b : Clash) → found ≡ b → verdictSays (shelfOf s) (truthsOf l) (nonfalseOf l) A ≡ unlessClash b (gives (verdictIn (truthsOf l) (nonfalseOf l) A))
+    module _ (found : Bool) (f : found ≡ contradictoryOf l A) where
+      says-by : (b : Bool) → found ≡ b
+          → verdictSays (shelfOf s) (truthsOf l) (nonfalseOf l) (contradictoryOf l) A ≡ cond b (refused 24) (gives (verdictIn (truthsOf l) (nonfalseOf l) A))
       unfolding verdictSays
-      says-by b h = passed (shelfOf s) A n e _ z ∙ ap (λ (x : Clash). unlessClash x (gives (verdictIn (truthsOf l) (nonfalseOf l) A))) (sym f ∙ h)
+      says-by b h = passed (shelfOf s) A n e _ z ∙ ap (λ (x : Bool). cond x (refused 24) (gives (verdictIn (truthsOf l) (nonfalseOf l) A))) (sym f ∙ h)
 
-      pub verdict-24 : (k : ℕ) → found ≡ clash.Name k → GivesVerdict s l A (verdict.Refused 24)
-      verdict-24 k h = record { says = sym (says-by (clash.Name k) h) }
+      pub verdict-24 : found ≡ true → GivesVerdict s l A (verdict.Refused 24)
+      verdict-24 h = record { says = sym (says-by true h) }
 
-      pub verdict-given : found ≡ clash.None → (v : Verdict) → verdictIs v ≡ verdictIn (truthsOf l) (nonfalseOf l) A → GivesVerdict s l A (verdict.Given v)
-      verdict-given h v w = record { says = ap gives w ∙ sym (says-by clash.None h) }
+      pub verdict-given : found ≡ false → (v : Verdict) → verdictIs v ≡ verdictIn (truthsOf l) (nonfalseOf l) A → GivesVerdict s l A (verdict.Given v)
+      verdict-given h v w = record { says = ap gives w ∙ sym (says-by false h) }
 
 -- ---- model
 
@@ -163,7 +164,7 @@ module _ (s : Shelf) (l : Lesson) where
       let none = none-loaded-is s e in
       record { says = sym (unloaded-says (shelfOf s) _ none); truths = rw none t; nonfalse = rw none u; rounds = rw none refl }
 
-  pub model-given : (s .loaded ≡ 0 → ⊥) → (a : ModelAnswer) → modelSaid a ≡ gives (isClash (clashIn (truthsOf l))) → GivesModel s l (record { answer = a; model = l .model })
+  pub model-given : (s .loaded ≡ 0 → ⊥) → (a : ModelAnswer) → modelSaid a ≡ gives (isClash (clashIn (truthsOf l))) → GivesModel s l (record { answer = a; model = l .marks .model })
   unfolding modelSays whereLoaded
   model-given e a h =
       let some = loaded-is s e in
@@ -209,15 +210,15 @@ module _ (s : Shelf) (l : Lesson) where
 
 -- ---- listing
 
-bytes-are : (s : Shelf) (l : Lesson) → (s .loaded ≡ 0 → ⊥) → (facts : LitSet) → setOf (facts .words) ≡ inForce (ownOf l) → lister.listingHeld (s .book) facts (l .model) ≡ bytesOf s l
+bytes-are : (s : Shelf) (l : Lesson) → (s .loaded ≡ 0 → ⊥) → (facts : LitSet) → setOf (facts .words) ≡ inForce (ownOf l) → lister.listingHeld (s .book) facts (l .marks) ≡ bytesOf s l
 unfolding listingFrom
 bytes-are s l e facts force = rw (force, shelf-loaded s e) refl
 
 -- no listing is longer
-pub bytes-most : (s : Shelf) (l : Lesson) → noneLoaded (shelfOf s) ≡ false → l .model .rounds ≤ capacity → length (bytesOf s l) ≤ 65536
+pub bytes-most : (s : Shelf) (l : Lesson) → noneLoaded (shelfOf s) ≡ false → l .marks .model .rounds ≤ capacity → length (bytesOf s l) ≤ 65536
 bytes-most s l e few =
     let same = bytes-are s l (λ z. true≢false (sym (none-loaded-is s z) ∙ e)) (l .facts) (force-is l) in
-    omega (arith, ap length same, listing-room (s .book) (l .facts) (l .model) (omega arith) .fits)
+    omega (arith, ap length same, listing-room (s .book) (l .facts) (l .marks) (omega arith) .fits)
 
 module _ (s : Shelf) (l : Lesson) (before : List ℕ) where
   pub listing-20 : s .loaded ≡ 0 → Lists s l before (listing.Refused 20) before
@@ -225,7 +226,7 @@ module _ (s : Shelf) (l : Lesson) (before : List ℕ) where
   listing-20 e = record { says = sym (unloaded-says (shelfOf s) _ (none-loaded-is s e)); buffer = refl }
 
   module _ (e : s .loaded ≡ 0 → ⊥) (facts : LitSet) (force : setOf (facts .words) ≡ inForce (ownOf l)) (after : List ℕ) (w : Written)
-      (h : Writes (lister.listingHeld (s .book) facts (l .model)) before w after) where
+      (h : Writes (lister.listingHeld (s .book) facts (l .marks)) before w after) where
     writes : Writes (bytesOf s l) before w after
     writes = rw (bytes-are s l e facts force) at h
 

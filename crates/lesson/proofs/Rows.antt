@@ -9,22 +9,20 @@ use lib.Dec.{leb}
 use lib.ListN.{length}
 use borrow.Author.Tests.{ltb-true, ltb-false, leb-true, leb-false}
 use Rattle.wfsx.specs.Sets.{Set, _∈_, _∉_}
-use Rattle.wfsx.specs.Program.{Entry, Rule}
-use Rattle.wfsx.specs.Model.{M}
+use Rattle.wfsx.specs.Program.{Entry, Rule, Program}
+use Rattle.wfsx.specs.Reach.{nameOf}
+use Rattle.wfsx.specs.ContradictoryNames.{ContradictoryName, contradictoryNames}
+use Rattle.wfsx.proofs.ContradictoryNames.{contradictory-is}
 use Rattle.wfsx.specs.Trees.{Tree}
 use Rattle.truth.proofs.Truth.{decided}
-use Rattle.litset.specs.Words.{clashIn}
-use Rattle.litset.specs.declared.Clash.{Clash}
-use Rattle.litset.specs.declared.Clash.the-variants as clash
 use Rattle.reader.specs.Conditions.{Row, First}
 use Rattle.fixpoint.specs.Result.{verdictIn}
-use Rattle.fixpoint.proofs.Published.{no-clash, clash-name}
-use Rattle.lesson.specs.State.{BookState, unloaded, loaded-with, State, itsNames, programIn, ContradictoryOver, listingIn, noneLoaded, inBook, Said, gives, refused, acknowledged, ifLoaded, inOrder, itsLiteral, changeFits, changeSays, searchSays, unlessClash, verdictSays, modelSays, listingSays}
+use Rattle.lesson.specs.State.{BookState, unloaded, loaded-with, State, itsNames, programIn, listingIn, noneLoaded, inBook, Said, gives, refused, acknowledged, ifLoaded, inOrder, itsLiteral, changeFits, changeSays, searchSays, contradictoryBelow, verdictSays, modelSays, listingSays}
 use Rattle.lesson.specs.Conditions.{NoBook, NotBelow, changeRow, changeRows, verdictRows, searchRows, bookRows, listingRows}
 use Rattle.lesson.specs.declared.Change.{Change}
 use Rattle.lesson.specs.declared.Change.the-variants.{PutIn, TakeOut}
 use Rattle.lesson.proofs.Order.{given-refused, refused-same, unloaded-says, loaded-says}
-use Rattle.lesson.proofs.Sound.{Sound, heads-in-book, heads-in-room}
+use Rattle.lesson.proofs.Marks.{contradictory-at}
 
 abbrev pub By : {X : Type 0} → Said X → List Row → Type 0
 By said rows = (number : ℕ) → (said ≡ refused number) ↔ First number rows
@@ -59,21 +57,21 @@ loaded-by {X} d rows said by = go (d .book) refl
         unmet 20 (NoBook d) rows _ (λ h. not-unloaded names rules (sym e ∙ h)) (rw (loaded-says (d .book) said (ap noneLoaded e)) by)
 
 -- 20, then 21
-order-by : {X : Type 0} (d : State) (A : ℕ) (rows : List Row) (fits : Said X) → By fits rows → By (inOrder (d .book) A fits) ((20, NoBook d) ∷ (21, NotBelow d A) ∷ rows)
+order-by : {X : Type 0} (d : State) (A : ℕ) (rows : List Row) (fits : Said X) → (A ∈ inBook (d .book) → By fits rows) → By (inOrder (d .book) A fits) ((20, NoBook d) ∷ (21, NotBelow d A) ∷ rows)
 unfolding inOrder inBook
 order-by {X} d A rows fits by = loaded-by d ((21, NotBelow d A) ∷ rows) _ (go (decided (inBook (d .book) A)))
   where
     go : (A ∈ inBook (d .book)) ⊎ (A ∉ inBook (d .book)) → By (cond (inBook (d .book) A) fits (refused 21)) ((21, NotBelow d A) ∷ rows)
     go (inl i) =
         let below = ltb-true A (2 * length (itsNames (d .book))) i in
-        unmet 21 (NotBelow d A) rows _ (λ q. omega arith) (rw i by)
+        unmet 21 (NotBelow d A) rows _ (λ q. omega arith) (rw i (by i))
     go (inr o) = met 21 (NotBelow d A) rows _ (ltb-false A (2 * length (itsNames (d .book))) o) (rw o refl)
 
 -- ---- the calls
 
 pub change-by : (d : State) (c : Change) → By (changeSays d c) (changeRows d c)
 unfolding changeSays
-change-by d c = order-by d (itsLiteral c) (changeRow d c ∷ []) _ (fits c)
+change-by d c = order-by d (itsLiteral c) (changeRow d c ∷ []) _ (λ i. fits c)
   where
     fits : (c : Change) → By (changeFits c (d .own .putIn (itsLiteral c))) (changeRow d c ∷ [])
     fits (PutIn A) = go (d .own .putIn A) refl
@@ -89,18 +87,19 @@ change-by d c = order-by d (itsLiteral c) (changeRow d c ∷ []) _ (fits c)
 
 pub search-by : (d : State) (A : ℕ) (k : Tree) (question : Entry) → By (searchSays d A k question) (searchRows d A)
 unfolding searchSays
-search-by d A k question = order-by d A [] _ (given-by _ _ refl)
+search-by d A k question = order-by d A [] _ (λ i. given-by _ _ refl)
 
--- where T is M, 24 is said exactly of a contradictory lesson
-pub verdict-by : (d : State) → Sound d → (T U : Set) → T ≡ M (programIn d) → (A : ℕ) → By (verdictSays (d .book) T U A) (verdictRows d A)
+-- where C has the literals of the contradictory names, 24 is said exactly of these
+pub verdict-by : (d : State) (T U C : Set) → C ≡ contradictoryBelow (length (itsNames (d .book))) (programIn d) → (A : ℕ) → By (verdictSays (d .book) T U C A) (verdictRows d A)
 unfolding verdictSays
-verdict-by d s T U t A = order-by d A ((24, ContradictoryOver (inBook (d .book)) d) ∷ []) _ (go (clashIn T) refl)
+verdict-by d T U C c A = order-by d A ((24, ContradictoryName P (nameOf A)) ∷ []) _ (λ i. rw (ap (λ (S : Set). S A) c ∙ contradictory-at (d .book) P A i) (go (contradictoryNames P (nameOf A)) refl))
   where
-    go : (c : Clash) → clashIn T ≡ c → By (unlessClash c (gives (verdictIn T U A))) ((24, ContradictoryOver (inBook (d .book)) d) ∷ [])
-    go clash.None e =
-        unmet 24 (ContradictoryOver (inBook (d .book)) d) [] _ (no-clash (programIn d) (heads-in-room d s) (inBook (d .book)) (heads-in-book d s) .0 (rw t at e)) (given-by _ _ refl)
-    go (clash.Name n) e =
-        met 24 (ContradictoryOver (inBook (d .book)) d) [] _ (clash-name (programIn d) (heads-in-room d s) (inBook (d .book)) (heads-in-book d s) n .0 (rw t at e) .0) refl
+    P : Program
+    P = programIn d
+
+    go : (t : Bool) → contradictoryNames P (nameOf A) ≡ t → By (cond t (refused 24) (gives (verdictIn T U A))) ((24, ContradictoryName P (nameOf A)) ∷ [])
+    go true e = met 24 (ContradictoryName P (nameOf A)) [] _ (contradictory-is P (nameOf A) .0 e) refl
+    go false e = unmet 24 (ContradictoryName P (nameOf A)) [] _ (λ h. true≢false (sym (contradictory-is P (nameOf A) .1 h) ∙ e)) (given-by _ _ refl)
 
 pub model-by : (d : State) (T : Set) → By (modelSays (d .book) T) (bookRows d)
 unfolding modelSays

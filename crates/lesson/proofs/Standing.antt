@@ -1,19 +1,21 @@
--- The sets that a lesson holds stand for M and N of its program: where it begins on a book, and after every change, since a model stays only where the
--- program does.
+-- The marks that a lesson holds are those of its program: where it begins on a book, and after every change, since marks stay only where the program does.
 use mathlib.Core.Path.{_≡_, refl, sym, _∙_, ap}
 use mathlib.Core.Logic.{inl, inr}
 use mathlib.Core.List.{List, []}
-use Prim.Native.Nat.{ℕ}
-use Rattle.wfsx.specs.Sets.{∅}
+use Prim.Native.Nat.{ℕ, _*_}
+use lib.ListN.{length}
+use borrow.Author.Tests.{lt-ltb}
+use Rattle.wfsx.specs.Sets.{Set, _∈_, ∅}
 use Rattle.wfsx.specs.Program.{Rule}
-use Rattle.book.specs.Book.{rulesOf, program, programOf}
+use Rattle.wfsx.specs.Reach.{nameOf}
+use Rattle.wfsx.specs.ContradictoryNames.{contradictoryNames}
+use Rattle.book.specs.Book.{namesOf, rulesOf, program, programOf}
 use Rattle.book.specs.declared.Book.{Book}
 use Rattle.book.proofs.Heads.{program-of}
-use Rattle.fixpoint.specs.Result.{ModelOf}
 use Rattle.lister.specs.Listing.{listingOf}
 use Rattle.lister.proofs.Standing.{listing-stands}
-use Rattle.lesson.specs.State.{BookState, loaded-with, Own, emptied, itsRules, inForce, programIn, listingIn, listingFrom, changed}
-use Rattle.lesson.specs.Calls.{shelfOf, ownOf, meaningOf, Standing, bytesOf, Begins, ModelAfter, ChangesTo, LessonAfter, Changes}
+use Rattle.lesson.specs.State.{BookState, loaded-with, Own, emptied, itsNames, itsRules, inForce, programIn, inBook, listingIn, listingFrom, changed}
+use Rattle.lesson.specs.Calls.{shelfOf, ownOf, meaningOf, contradictoryOf, MarksOf, Standing, bytesOf, Begins, MarksAfter, ChangesTo, LessonAfter, Changes}
 use Rattle.lesson.specs.declared.Shelf.{Shelf}
 use Rattle.lesson.specs.declared.Lesson.{Lesson}
 use Rattle.lesson.specs.declared.Change.{Change}
@@ -21,7 +23,8 @@ use Rattle.lesson.specs.declared.ChangeReply.{ChangeReply}
 use Rattle.lesson.specs.declared.ChangeAnswer.{ChangeAnswer}
 use Rattle.lesson.specs.declared.ChangeAnswer.the-variants as change
 use Rattle.lesson.proofs.Replies.{own-with}
-use Rattle.lesson.proofs.Meaning.{shelf-empty, loaded-is, program-is}
+use Rattle.lesson.proofs.Meaning.{shelf-empty, shelf-loaded, loaded-is, program-is}
+use Rattle.lesson.proofs.Marks.{contradictory-at}
 
 -- the program looks at the facts in force alone
 program-by : (b : BookState) (o p : Own) → inForce o ≡ inForce p → programIn (record { book = b; own = o }) ≡ programIn (record { book = b; own = p })
@@ -32,25 +35,26 @@ pub own-begins : (b : Book) (l : Lesson) → Begins b l → ownOf l ≡ emptied
 own-begins b l h = own-with l ∅ (h .none-put-in)
 
 module _ (s : Shelf) (l : Lesson) (begins : Begins (s .book) l) where
-  begin-stands : programOf (s .book) ∅ ≡ programIn (record { book = shelfOf s; own = emptied }) → Standing s l
-  begin-stands same = rw (own-begins (s .book) l begins) (rw same at (rw (begins .none-put-in) at (begins .model-is)))
+  begin-stands : length (namesOf (s .book)) ≡ length (itsNames (shelfOf s)) → programOf (s .book) ∅ ≡ programIn (record { book = shelfOf s; own = emptied }) → Standing s l
+  begin-stands names same = rw (own-begins (s .book) l begins) (rw (same, names) at (rw (begins .none-put-in) at (begins .marks-are)))
 
-  -- on a shelf with a book, and on one without a book or a rule
+  -- on a shelf with a book, and on one without a book whose table has neither a name nor a rule
   pub begin-loaded : (s .loaded ≡ 0 → ⊥) → Standing s l
   unfolding inForce
-  begin-loaded e = begin-stands (program-is s (loaded-is s e) emptied)
+  begin-loaded e = begin-stands (sym (ap (λ (b : BookState). length (itsNames b)) (shelf-loaded s e))) (program-is s (loaded-is s e) emptied)
 
-  pub begin-empty : s .loaded ≡ 0 → rulesOf (s .book) ≡ [] → Standing s l
+  pub begin-empty : s .loaded ≡ 0 → namesOf (s .book) ≡ [] → rulesOf (s .book) ≡ [] → Standing s l
   unfolding programIn inForce
-  begin-empty e none =
-      begin-stands
-      (program-of (s .book) ∅ ∙ ap (λ (rules : List Rule). program rules ∅) none ∙ sym (ap (λ (b : BookState). program (itsRules b) ∅) (shelf-empty s e)))
+  begin-empty e no-names no-rules =
+      begin-stands (rw (shelf-empty s e, no-names) refl)
+      (program-of (s .book) ∅ ∙ ap (λ (rules : List Rule). program rules ∅) no-rules ∙ sym (ap (λ (b : BookState). program (itsRules b) ∅) (shelf-empty s e)))
 
 module _ (s : Shelf) (l : Lesson) (stands : Standing s l) where
   changed-stands : (own : Own) (m : Lesson) → ChangesTo s l own m → Standing s m
-  changed-stands own m h = rw (h .own-is) (go (h .model-is))
+  changed-stands own m h = rw (h .own-is) (go (h .marks-are))
     where
-      go : ModelAfter l (inForce own) (programIn (record { book = shelfOf s; own = own })) (m .model) → ModelOf (programIn (record { book = shelfOf s; own = own })) (m .model)
+      go : MarksAfter l (inForce own) (length (itsNames (shelfOf s))) (programIn (record { book = shelfOf s; own = own })) (m .marks)
+          → MarksOf (length (itsNames (shelfOf s))) (programIn (record { book = shelfOf s; own = own })) (m .marks)
       go (inl w) = rw (w .1, program-by (shelfOf s) own (ownOf l) (w .0)) stands
       go (inr w) = w .1
 
@@ -61,10 +65,16 @@ module _ (s : Shelf) (l : Lesson) (stands : Standing s l) where
       go change.Done w = changed-stands (changed c (ownOf l)) (r .lesson) w
       go (change.Refused n) w = rw w stands
 
-  -- then the bytes that the listing call writes are the listing of document 01
+  -- for a literal of the book the third set tells whether its name is contradictory
+  pub stands-at : (A : ℕ) → A ∈ inBook (shelfOf s) → contradictoryOf l A ≡ contradictoryNames (programIn (meaningOf s l)) (nameOf A)
+  stands-at A i = ap (λ (S : Set). S A) (stands .contradictory-are) ∙ contradictory-at (shelfOf s) (programIn (meaningOf s l)) A i
+
+  -- then the bytes that the listing call writes are the listing of documents 01 and 02
   pub bytes-stand : bytesOf s l ≡ listingIn (meaningOf s l)
-  unfolding listingFrom listingIn programIn
-  bytes-stand = listing-stands _ _ _ _ _ _ (stands .truths) (stands .nonfalse) (stands .rounds)
+  unfolding listingFrom listingIn programIn inBook
+  bytes-stand =
+      let is = stands .model-is in
+      listing-stands _ _ _ _ _ _ _ (is .truths) (is .nonfalse) (λ A h. stands-at A (lt-ltb A (2 * length (itsNames (shelfOf s))) h)) (is .rounds)
 
 -- the listing of a book with no facts
 pub listing-begun : (names : List (List ℕ)) (rules : List Rule) → listingIn (record { book = loaded-with names rules; own = emptied }) ≡ listingOf names rules ∅

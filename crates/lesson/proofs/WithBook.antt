@@ -1,6 +1,6 @@
 -- What the calls that read say where there is a book, and of a literal of it.
 use mathlib.Core.Path.{_≡_, refl, _∙_}
-use mathlib.Core.Bool.{false}
+use mathlib.Core.Bool.{false, cond}
 use mathlib.Core.List.{List}
 use Prim.Native.Nat.{ℕ, _≤_, _<_}
 use lib.ListN.{length}
@@ -11,17 +11,17 @@ use Rattle.wfsx.specs.Model.{Verdict}
 use Rattle.wfsx.specs.Trees.{Tree, answer}
 use Rattle.litset.specs.Words.{clashIn}
 use Rattle.fixpoint.specs.Result.{verdictIn}
-use Rattle.lesson.specs.State.{BookState, State, programIn, noneLoaded, inBook, gives, refused, searchSays, unlessClash, verdictSays, isClash, modelSays, whereLoaded, listingSays}
+use Rattle.lesson.specs.State.{BookState, State, programIn, noneLoaded, inBook, gives, refused, searchSays, verdictSays, isClash, modelSays, whereLoaded, listingSays}
 use Rattle.lesson.proofs.Order.{loaded-says, inside, given-inside, some-book}
 
-pub verdict-inside : (b : BookState) (T U : Set) (A : ℕ) → A ∈ inBook b → verdictSays b T U A ≡ unlessClash (clashIn T) (gives (verdictIn T U A))
+pub verdict-inside : (b : BookState) (T U C : Set) (A : ℕ) → A ∈ inBook b → verdictSays b T U C A ≡ cond (C A) (refused 24) (gives (verdictIn T U A))
 unfolding verdictSays
-verdict-inside b T U A i = inside b A _ (some-book b A i) i
+verdict-inside b T U C A i = inside b A _ (some-book b A i) i
 
 -- a verdict is given of a literal of the book
-pub verdict-given : (b : BookState) (T U : Set) (A : ℕ) (v : Verdict) → verdictSays b T U A ≡ gives v → A ∈ inBook b
+pub verdict-given : (b : BookState) (T U C : Set) (A : ℕ) (v : Verdict) → verdictSays b T U C A ≡ gives v → A ∈ inBook b
 unfolding verdictSays
-verdict-given b T U A v e = given-inside b A _ v e .1
+verdict-given b T U C A v e = given-inside b A _ v e .1
 
 pub search-inside : (d : State) (A : ℕ) (k : Tree) (question : Entry) → A ∈ inBook (d .book) → searchSays d A k question ≡ gives (answer (programIn d) k question)
 unfolding searchSays

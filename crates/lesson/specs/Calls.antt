@@ -5,6 +5,7 @@ use mathlib.Core.Bool.{Bool, true, false, cond}
 use Prim.Native.Nat.{ℕ}
 use mathlib.Core.List.{List}
 use lib.Dec.{eqb}
+use lib.ListN.{length}
 use Rattle.wfsx.specs.Sets.{Set, ∅}
 use Rattle.wfsx.specs.Program.{Entry, Program}
 use Rattle.wfsx.specs.Model as wfsx
@@ -13,9 +14,9 @@ use Rattle.litset.specs.Words.{setOf}
 use Rattle.book.specs.Book.{namesOf, rulesOf, programOf}
 use Rattle.book.specs.declared.Book.{Book}
 use Rattle.fixpoint.specs.Result.{ModelOf, verdictIs}
-use Rattle.fixpoint.specs.declared.Model.{Model}
 use Rattle.reach.specs.Order.{orderTable}
-use Rattle.lesson.specs.State.{BookState, unloaded, loaded-with, Own, State, inForce, programIn, Said, gives, refused, Ack, acknowledged, changeSays, changed, searchSays, verdictSays, modelSays, whereLoaded, ifLoaded, orderIn, listingFrom, listingSays, bufferAfter}
+use Rattle.lister.specs.declared.Marks.{Marks}
+use Rattle.lesson.specs.State.{BookState, unloaded, loaded-with, Own, State, itsNames, inForce, programIn, Said, gives, refused, Ack, acknowledged, changeSays, changed, searchSays, contradictoryBelow, verdictSays, modelSays, whereLoaded, ifLoaded, orderIn, listingFrom, listingSays, bufferAfter}
 use Rattle.lesson.specs.declared.Shelf.{Shelf}
 use Rattle.lesson.specs.declared.Lesson.{Lesson}
 use Rattle.lesson.specs.declared.Change.{Change}
@@ -48,16 +49,24 @@ ownOf l = record { putIn = setOf (l .facts .words) }
 abbrev pub meaningOf : Shelf → Lesson → State
 meaningOf s l = record { book = shelfOf s; own = ownOf l }
 
--- the sets that stand for M and N
+-- the sets that stand for M, N and the literals whose verdicts 24 refuses
 abbrev pub truthsOf : Lesson → Set
-truthsOf l = setOf (l .model .truths .words)
+truthsOf l = setOf (l .marks .model .truths .words)
 
 abbrev pub nonfalseOf : Lesson → Set
-nonfalseOf l = setOf (l .model .nonfalse .words)
+nonfalseOf l = setOf (l .marks .model .nonfalse .words)
 
--- They are M and N of the lesson's program, and the number beside them is that of the rounds. (Of a lesson that a list of calls leaves this is a theorem.)
+abbrev pub contradictoryOf : Lesson → Set
+contradictoryOf l = setOf (l .marks .contradictory .words)
+
+-- the marks of P over the first n names: its model, and both literals of each contradictory name
+pub record MarksOf (n : ℕ) (P : Program) (m : Marks) : Type 0 where
+  pub model-is : ModelOf P (m .model)
+  pub contradictory-are : setOf (m .contradictory .words) ≡ contradictoryBelow n P
+
+-- Those that stand are the marks of the lesson's program. (Of a lesson that a list of calls leaves this is a theorem.)
 abbrev pub Standing : Shelf → Lesson → Type 0
-Standing s l = ModelOf (programIn (meaningOf s l)) (l .model)
+Standing s l = MarksOf (length (itsNames (shelfOf s))) (programIn (meaningOf s l)) (l .marks)
 
 -- the number under which a call is turned down, or 0
 abbrev pub numberSays : ℕ → Said Ack
@@ -65,26 +74,26 @@ numberSays number = cond (eqb number 0) (gives acknowledged) (refused number)
 
 -- ---- the lesson that begins on a book
 
--- nothing is put in, and the model is that of the book
+-- nothing is put in, and the marks are those of the book
 pub record Begins (book : Book) (l : Lesson) : Type 0 where
   pub none-put-in : setOf (l .facts .words) ≡ ∅
-  pub model-is : ModelOf (programOf book (setOf (l .facts .words))) (l .model)
+  pub marks-are : MarksOf (length (namesOf book)) (programOf book (setOf (l .facts .words))) (l .marks)
 
 -- ---- putting in and taking out
 
--- The model of a lesson made from l, where the facts in force are F and the program is P: it stays where l has the same facts in force, and is worked
--- out where they are others.
-abbrev pub ModelAfter : Lesson → Set → Program → Model → Type 0
-ModelAfter l F P m = ((F ≡ inForce (ownOf l)) × (m ≡ l .model)) ⊎ ((F ≡ inForce (ownOf l) → ⊥) × ModelOf P m)
+-- The marks of a lesson made from l, where the facts in force are F and P is the program over n names: they stay where l has the same facts in force,
+-- and are worked out where they are others.
+abbrev pub MarksAfter : Lesson → Set → ℕ → Program → Marks → Type 0
+MarksAfter l F n P m = ((F ≡ inForce (ownOf l)) × (m ≡ l .marks)) ⊎ ((F ≡ inForce (ownOf l) → ⊥) × MarksOf n P m)
 
 abbrev pub changeSaid : ChangeAnswer → Said Ack
 changeSaid change.Done = gives acknowledged
 changeSaid (change.Refused number) = refused number
 
--- the lesson m has this of its own, and its model is up to date
+-- the lesson m has this of its own, and its marks are up to date
 pub record ChangesTo (s : Shelf) (l : Lesson) (own : Own) (m : Lesson) : Type 0 where
   pub own-is : ownOf m ≡ own
-  pub model-is : ModelAfter l (inForce own) (programIn (record { book = shelfOf s; own = own })) (m .model)
+  pub marks-are : MarksAfter l (inForce own) (length (itsNames (shelfOf s))) (programIn (record { book = shelfOf s; own = own })) (m .marks)
 
 -- an accepted call changes what the lesson has of its own, and a refused one leaves the lesson as it was
 abbrev pub LessonAfter : Shelf → Lesson → Own → ChangeAnswer → Lesson → Type 0
@@ -102,7 +111,7 @@ verdictSaid (verdict.Given v) = gives (verdictIs v)
 verdictSaid (verdict.Refused number) = refused number
 
 pub record GivesVerdict (s : Shelf) (l : Lesson) (A : ℕ) (r : VerdictAnswer) : Type 0 where
-  pub says : verdictSaid r ≡ verdictSays (shelfOf s) (truthsOf l) (nonfalseOf l) A
+  pub says : verdictSaid r ≡ verdictSays (shelfOf s) (truthsOf l) (nonfalseOf l) (contradictoryOf l) A
 
 abbrev pub searchSaid : SearchAnswer → Said Bool
 searchSaid (searched.Given holds) = gives holds
@@ -121,7 +130,7 @@ pub record GivesModel (s : Shelf) (l : Lesson) (r : ModelReply) : Type 0 where
   pub says : modelSaid (r .answer) ≡ modelSays (shelfOf s) (truthsOf l)
   pub truths : setOf (r .model .truths .words) ≡ whereLoaded (shelfOf s) (truthsOf l) ∅
   pub nonfalse : setOf (r .model .nonfalse .words) ≡ whereLoaded (shelfOf s) (nonfalseOf l) ∅
-  pub rounds : r .model .rounds ≡ whereLoaded (shelfOf s) (l .model .rounds) 0
+  pub rounds : r .model .rounds ≡ whereLoaded (shelfOf s) (l .marks .model .rounds) 0
 
 -- ---- working order, model by groups
 
@@ -148,7 +157,7 @@ listingSaid (listing.Refused number) = refused number
 
 -- the bytes that the listing call writes
 abbrev pub bytesOf : Shelf → Lesson → List ℕ
-bytesOf s l = listingFrom (meaningOf s l) (truthsOf l) (nonfalseOf l) (l .model .rounds)
+bytesOf s l = listingFrom (meaningOf s l) (truthsOf l) (nonfalseOf l) (contradictoryOf l) (l .marks .model .rounds)
 
 -- `before` and `after` are the bytes of the lent buffer
 pub record Lists (s : Shelf) (l : Lesson) (before : List ℕ) (r : ListingAnswer) (after : List ℕ) : Type 0 where

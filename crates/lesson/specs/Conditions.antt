@@ -1,11 +1,13 @@
--- The conditions of document 01, "When a call is turned down by the state", for each call in their order.
+-- The conditions of document 01, "When a call is turned down by the state", for each call in their order; that of 24 is document 02's (A.7).
 use mathlib.Core.Path.{_≡_}
 use mathlib.Core.List.{List, [], _∷_}
 use Prim.Native.Nat.{ℕ, _*_, _≤_, _<_}
 use lib.ListN.{length}
 use Rattle.wfsx.specs.Sets.{_∈_, _∉_}
+use Rattle.wfsx.specs.Reach.{nameOf}
+use Rattle.wfsx.specs.ContradictoryNames.{ContradictoryName}
 use Rattle.reader.specs.Conditions.{Row}
-use Rattle.lesson.specs.State.{unloaded, itsNames, State, inBook, ContradictoryOver, listingIn, itsLiteral}
+use Rattle.lesson.specs.State.{unloaded, itsNames, State, programIn, listingIn, itsLiteral}
 use Rattle.lesson.specs.declared.Change.{Change}
 use Rattle.lesson.specs.declared.Change.the-variants.{PutIn, TakeOut}
 
@@ -25,9 +27,9 @@ changeRow d (TakeOut A) = (23, A ∉ d .own .putIn)
 abbrev pub changeRows : State → Change → List Row
 changeRows d c = (20, NoBook d) ∷ (21, NotBelow d (itsLiteral c)) ∷ changeRow d c ∷ []
 
--- 24: the lesson is contradictory
+-- 24: the literal's name, or a name it reaches, has both literals in M
 abbrev pub verdictRows : State → ℕ → List Row
-verdictRows d A = (20, NoBook d) ∷ (21, NotBelow d A) ∷ (24, ContradictoryOver (inBook (d .book)) d) ∷ []
+verdictRows d A = (20, NoBook d) ∷ (21, NotBelow d A) ∷ (24, ContradictoryName (programIn d) (nameOf A)) ∷ []
 
 abbrev pub searchRows : State → ℕ → List Row
 searchRows d A = (20, NoBook d) ∷ (21, NotBelow d A) ∷ []

@@ -1,6 +1,6 @@
 -- A book or none and the literals put in, as document 01 speaks of them, and what a call answers over them ("When a call is turned down by the state",
 -- "From rules to a model", "From a question to its trees").
-use mathlib.Core.Bool.{Bool, true, false, cond}
+use mathlib.Core.Bool.{Bool, true, false, cond, _&&_}
 use mathlib.Core.List.{List, [], _++_}
 use Prim.Native.Nat.{ℕ, _*_}
 use lib.Dec.{leb, ltb}
@@ -9,7 +9,9 @@ use Rattle.wfsx.specs.Sets.{Set, ∅, add}
 use Rattle.wfsx.specs.Program.{Entry, Rule, Program}
 use Rattle.wfsx.specs.Model.{Contradictory, Verdict}
 use Rattle.wfsx.specs.Trees.{Tree, answer}
+use Rattle.wfsx.specs.Reach.{nameOf}
 use Rattle.wfsx.specs.Groups.{workingOrder}
+use Rattle.wfsx.specs.ContradictoryNames.{contradictoryNames}
 use Rattle.litset.specs.Words.{without, clashIn}
 use Rattle.litset.specs.declared.Clash.{Clash}
 use Rattle.litset.specs.declared.Clash.the-variants.{None, Name}
@@ -56,7 +58,7 @@ programIn d = program (itsRules (d .book)) (inForce (d .own))
 abbrev pub ContradictoryOver : Set → State → Type 0
 ContradictoryOver base d = Contradictory (programIn d) base
 
--- the listing of document 01
+-- the listing of documents 01 and 02
 unfoldable pub listingIn : State → List ℕ
 listingIn d = listingOf (itsNames (d .book)) (itsRules (d .book)) (inForce (d .own))
 
@@ -124,15 +126,15 @@ ownAfter d c = unlessRefused (changeSays d c) (changed c (d .own)) (d .own)
 unfoldable pub searchSays : State → ℕ → Tree → Entry → Said Bool
 searchSays d A k question = inOrder (d .book) A (gives (answer (programIn d) k question))
 
--- ---- verdict, model and listing: by two sets T and U, which stand for M and N
+-- ---- verdict, model and listing: by sets T, U and C, which stand for M, N and the literals whose verdicts 24 refuses
 
--- 24: the lesson is contradictory, which is read from T
-abbrev pub unlessClash : Clash → Said Verdict → Said Verdict
-unlessClash None said = said
-unlessClash (Name n) said = refused 24
+-- both literals of each contradictory name among the first n names
+unfoldable pub contradictoryBelow : ℕ → Program → Set
+contradictoryBelow n P A = ltb (nameOf A) n && contradictoryNames P (nameOf A)
 
-unfoldable pub verdictSays : BookState → Set → Set → ℕ → Said Verdict
-verdictSays b T U A = inOrder b A (unlessClash (clashIn T) (gives (verdictIn T U A)))
+-- 24: the literal's name is contradictory, which is read from C
+unfoldable pub verdictSays : BookState → Set → Set → Set → ℕ → Said Verdict
+verdictSays b T U C A = inOrder b A (cond (C A) (refused 24) (gives (verdictIn T U A)))
 
 -- whether the lesson is contradictory
 abbrev pub isClash : Clash → Bool
@@ -155,8 +157,8 @@ orderIn b = workingOrder (itsRules b) (length (itsNames b))
 -- ---- listing
 
 -- the bytes of the listing; k stands for the rounds
-unfoldable pub listingFrom : State → Set → Set → ℕ → List ℕ
-listingFrom d T U k = listingBySets (itsNames (d .book)) (itsRules (d .book)) (inForce (d .own)) T U k
+unfoldable pub listingFrom : State → Set → Set → Set → ℕ → List ℕ
+listingFrom d T U C k = listingBySets (itsNames (d .book)) (itsRules (d .book)) (inForce (d .own)) T U C k
 
 -- The listing call answers the listing's length. 25: the lent buffer is shorter than the listing
 unfoldable pub listingSays : BookState → List ℕ → List ℕ → Said ℕ

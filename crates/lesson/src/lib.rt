@@ -2,15 +2,18 @@
 // changes the facts returns its answer and the lesson, and a refused one the lesson that it was given; a call that only reads returns its answer alone.
 ghost use mathlib.Core.Path.{_≡_};
 ghost use Prim.Native.Nat.{_<_};
+ghost use lib.ListN.{length};
 ghost use Rattle.litset.specs.Words.{capacity, setOf, clashIn};
-ghost use Rattle.book.specs.Book.{programOf};
+ghost use Rattle.book.specs.Book.{namesOf, rulesOf, programOf};
+ghost use Rattle.reach.specs.Reaching.{ReachingBoth};
 ghost use Rattle.search.specs.Questions.{treeOf, questionOf};
 ghost use Rattle.lesson.specs.State.{acknowledged, gives, inOrder, inForce, itsLiteral, changeFits, changeSays, changedSet, isClash};
-ghost use Rattle.lesson.specs.Calls.{shelfOf, ownOf, meaningOf, numberSays, Begins, ModelAfter, Changes, GivesVerdict, Searches, modelSaid, GivesModel, GivesOrder, GivesGroups, Lists};
+ghost use Rattle.lesson.specs.Calls.{shelfOf, ownOf, meaningOf, numberSays, Begins, MarksOf, MarksAfter, Changes, GivesVerdict, Searches, modelSaid, GivesModel, GivesOrder, GivesGroups, Lists};
 use book::Book;
 use fixpoint::Model;
 use fixpoint::Values;
 use fixpoint::Verdict;
+use lister::Marks;
 use lister::Written;
 use litset::Clash;
 use litset::LitSet;
@@ -24,12 +27,12 @@ pub struct Shelf {
     pub book: Book,
 }
 
-// A lesson beside its book: the facts put in, and the model of the book with the facts in force, which stands until another call changes the one or the
+// A lesson beside its book: the facts put in, and the marks of the book with the facts in force, which stand until another call changes the one or the
 // other.
 #[repr(C)]
 pub struct Lesson {
     pub facts: LitSet,
-    pub model: Model,
+    pub marks: Marks,
 }
 
 // Putting in and taking out a literal.
@@ -101,24 +104,51 @@ fn in_force(l: Lesson) -> LitSet
     l.facts
 }
 
+// Both literals of each name of the book that reaches a name with both literals in a set, which stands for M. What names reach is worked out only where
+// there is such a name.
+fn contradictory_by(book: Book, truths: LitSet) -> LitSet
+    ensures { λ r. ⌜ ReachingBoth (rulesOf book) (length (namesOf book)) (setOf (truths .words)) (setOf (r .words)) ⌝ }
+{
+    match litset::lowest_both(truths) {
+        Clash::None => {
+            return litset::empty();
+        }
+        Clash::Name(_) => {
+            return reach::reaching_both(book, truths);
+        }
+    }
+}
+
+// The marks of a book with these facts in force.
+fn marks_of(book: Book, facts: LitSet) -> Marks
+    ensures { λ r. ⌜ MarksOf (length (namesOf book)) (programOf book (setOf (facts .words))) r ⌝ }
+{
+    let model = fixpoint::model_of(book, facts);
+    let contradictory = contradictory_by(book, model.truths);
+    Marks {
+        model,
+        contradictory,
+    }
+}
+
 // The lesson that begins on a book: no fact is put in.
 pub fn begin(book: Book) -> Lesson
     ensures { λ r. ⌜ Begins book r ⌝ }
 {
     let facts = litset::empty();
-    let model = fixpoint::model_of(book, facts);
-    Lesson { facts, model }
+    let marks = marks_of(book, facts);
+    Lesson { facts, marks }
 }
 
-// The model of a book with these facts in force, for a lesson made from l: it is worked out only where they are others than those of l.
-fn model_with(book: Book, l: Lesson, facts: LitSet) -> Model
-    ensures { λ r. ⌜ ModelAfter l (setOf (facts .words)) (programOf book (setOf (facts .words))) r ⌝ }
+// The marks of a book with these facts in force, for a lesson made from l: they are worked out only where these are others than those of l.
+fn marks_with(book: Book, l: Lesson, facts: LitSet) -> Marks
+    ensures { λ r. ⌜ MarksAfter l (setOf (facts .words)) (length (namesOf book)) (programOf book (setOf (facts .words))) r ⌝ }
 {
     let before = in_force(l);
     if litset::equal(facts, before) {
-        return l.model;
+        return l.marks;
     }
-    fixpoint::model_of(book, facts)
+    marks_of(book, facts)
 }
 
 // 20 or 21, or 0 where neither is met.
@@ -193,8 +223,8 @@ pub fn change_facts(s: Shelf, l: Lesson, change: Change) -> ChangeReply
     let facts = facts_after(l.facts, change);
     let mut m = l;
     m.facts = facts;
-    let model = model_with(s.book, l, in_force(m));
-    m.model = model;
+    let marks = marks_with(s.book, l, in_force(m));
+    m.marks = marks;
     ChangeReply {
         answer: ChangeAnswer::Done,
         lesson: m,
@@ -211,14 +241,10 @@ pub fn verdict(s: Shelf, l: Lesson, literal: usize) -> VerdictAnswer
     if number != 0 {
         return VerdictAnswer::Refused(number);
     }
-    match litset::lowest_both(l.model.truths) {
-        Clash::Name(_) => {
-            return VerdictAnswer::Refused(24);
-        }
-        Clash::None => {
-            return VerdictAnswer::Given(fixpoint::verdict_of(l.model, literal));
-        }
+    if litset::contains(l.marks.contradictory, literal) {
+        return VerdictAnswer::Refused(24);
     }
+    VerdictAnswer::Given(fixpoint::verdict_of(l.marks.model, literal))
 }
 
 // Whether the literal, or `not` of it where `default` says so, has a tree of this kind.
@@ -257,7 +283,7 @@ pub fn model(s: Shelf, l: Lesson) -> ModelReply
             },
         };
     }
-    let model = l.model;
+    let model = l.marks.model;
     ModelReply {
         answer: consistency(model.truths),
         model,
@@ -316,7 +342,7 @@ pub fn listing(s: Shelf, l: Lesson, buffer: &mut [u8]) -> ListingAnswer
     if s.loaded == 0 {
         return ListingAnswer::Refused(20);
     }
-    match lister::write(s.book, in_force(l), l.model, buffer) {
+    match lister::write(s.book, in_force(l), l.marks, buffer) {
         Written::Length(n) => {
             return ListingAnswer::Length(n);
         }

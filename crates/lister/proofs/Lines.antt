@@ -1,88 +1,81 @@
 -- The listing as the parts that are written one behind the other, and how long it can be.
-use mathlib.Core.Path.{_≡_, refl, sym, ap, _∙_}
+use mathlib.Core.Path.{_≡_, refl, ap}
+use mathlib.Core.Bool.{Bool, true, false, cond}
 use mathlib.Core.List.{List, [], _∷_, _++_, append-assoc}
 use Prim.Native.Nat.{ℕ, zero, suc, _+_, _-_, _*_, _^_, _≤_, _<_}
 use native.Mathlib.Numerals.{add-one}
 use native.Mathlib.Omega.{arith}
 use lib.ListN.{length, getD, length-append}
-use Rattle.wfsx.specs.Sets.{members}
+use Rattle.wfsx.specs.Sets.{Set, members}
 use Rattle.wfsx.proofs.Members.{length-most}
 use Rattle.litset.specs.Words.{capacity, setOf, clashIn}
 use Rattle.litset.specs.declared.LitSet.{LitSet}
 use Rattle.wfsx.specs.Model.{Verdict, is-true, is-false, is-undefined}
-use Rattle.book.specs.Book.{rows, clamp, nameAt, namesIn, rulesOf}
+use Rattle.book.specs.Book.{rows, clamp, nameAt, namesIn}
 use Rattle.book.specs.declared.Book.{Book}
 use Rattle.book.specs.Limits.{maxNames, maxRules}
 use Rattle.book.proofs.Rows.{rows-none, rows-first, rows-step, rows-end}
 use Rattle.book.proofs.Counts.{clamp-most}
-use Rattle.fixpoint.specs.declared.Model.{Model}
 use Rattle.litset.specs.declared.Clash.{Clash}
 use Rattle.litset.specs.declared.Clash.the-variants.{None, Name}
 use Rattle.scan.specs.Text.{comma, newline, maxLength}
 use Rattle.book.proofs.Names.{names-count, name-most, name-short, rules-counted}
-use Rattle.lister.specs.Listing.{modelWord, contradictionWord, refusedWord, verdictWord, digits, field, line, nameLine, nameLines, listingBy, listingBySets, verdictsBy, listingHeld, refusalOf}
-use Rattle.lister.specs.Steps.{Room, Put, countsTo, verdictsEnd}
+use Rattle.lister.specs.Listing.{modelWord, contradictionWord, refusedWord, contradictoryWord, verdictWord, digits, field, line, markWord, nameLine, nameLines, headerBy, listingBySets, verdictsBy, wordsBy, listingHeld, refusalOf}
+use Rattle.lister.specs.Steps.{Room, Put, countsTo, headerOf, verdictsEnd}
 use Rattle.lister.specs.declared.Counts.{Counts}
+use Rattle.lister.specs.declared.Marks.{Marks}
 use Rattle.lister.proofs.Stored.{room-first, Left, left-step, left-none}
 use Rattle.lister.proofs.Digits.{digits-most}
 
 -- ---- a name's line, and the lines from name k on
 
-pub name-line-is : (v : ℕ → Verdict) (k : ℕ) (name : List ℕ) → nameLine v k name ≡ field (digits k) comma ++ (field name comma ++ verdictsEnd v k)
+pub name-line-is : (w : ℕ → List ℕ) (k : ℕ) (name : List ℕ) → nameLine w k name ≡ field (digits k) comma ++ (field name comma ++ verdictsEnd w k)
 unfolding line
-name-line-is v k name = refl
+name-line-is w k name = refl
 
 -- the lines that are left for a loop over n names that has come to name k
-abbrev pub linesLeft : (ℕ → Verdict) → (ℕ → List ℕ) → ℕ → ℕ → List ℕ
-linesLeft v f n k = nameLines v k (rows f k (n - k))
+abbrev pub linesLeft : (ℕ → List ℕ) → (ℕ → List ℕ) → ℕ → ℕ → List ℕ
+linesLeft w f n k = nameLines w k (rows f k (n - k))
 
-module _ (v : ℕ → Verdict) (f : ℕ → List ℕ) (n k : ℕ) {all t u : List ℕ} {at p : ℕ} (left : Left all at t (linesLeft v f n k) p u) where
-  lines-step : k < n → linesLeft v f n k ≡ nameLine v k (f k) ++ linesLeft v f n (k + 1)
+module _ (w : ℕ → List ℕ) (f : ℕ → List ℕ) (n k : ℕ) {all t u : List ℕ} {at p : ℕ} (left : Left all at t (linesLeft w f n k) p u) where
+  lines-step : k < n → linesLeft w f n k ≡ nameLine w k (f k) ++ linesLeft w f n (k + 1)
   unfolding nameLines
   lines-step h = rw (rows-step f k n h, add-one k)
 
-  lines-end : n ≤ k → linesLeft v f n k ≡ []
+  lines-end : n ≤ k → linesLeft w f n k ≡ []
   unfolding nameLines
   lines-end h = rw (rows-end f k n h)
 
-  pub line-room : k < n → Room (nameLine v k (f k)) p
-  line-room h = room-first (nameLine v k (f k)) (linesLeft v f n (k + 1)) (rw (lines-step h) at (left .room))
+  pub line-room : k < n → Room (nameLine w k (f k)) p
+  line-room h = room-first (nameLine w k (f k)) (linesLeft w f n (k + 1)) (rw (lines-step h) at (left .room))
 
-  pub line-stored : k < n → {w : List ℕ} {q : ℕ} → Put (nameLine v k (f k)) p u w q → Left all at t (linesLeft v f n (k + 1)) q w
-  line-stored h x = left-step (nameLine v k (f k)) (linesLeft v f n (k + 1)) (rw (lines-step h) at left) x
+  pub line-stored : k < n → {x : List ℕ} {q : ℕ} → Put (nameLine w k (f k)) p u x q → Left all at t (linesLeft w f n (k + 1)) q x
+  line-stored h put = left-step (nameLine w k (f k)) (linesLeft w f n (k + 1)) (rw (lines-step h) at left) put
 
   pub lines-stored : n ≤ k → Put all at t u p
   lines-stored h = left-none (rw (lines-end h) at left)
 
--- ---- the listing
+-- ---- the header, and the listing
 
-module _ (names : List (List ℕ)) (c : Counts) (all : c .names ≡ length names) (v : ℕ → Verdict) where
-  pub clear-is : listingBy names (c .rules) (c .facts) (c .rounds) v None ≡ field modelWord comma ++ (countsTo newline c ++ nameLines v 0 names)
-  unfolding listingBy line
-  clear-is = rw (← all) (append-assoc (field modelWord comma) (countsTo newline c) (nameLines v 0 names))
-
-  pub clash-is : (n : ℕ)
-      → listingBy names (c .rules) (c .facts) (c .rounds) v (Name n) ≡ field contradictionWord comma ++ (countsTo comma c ++ field (getD names n []) newline)
-  unfolding listingBy line
-  clash-is n = rw (← all) (simp append-assoc)
-
--- the same by the counts that the code has
-module _ (b : Book) (facts : LitSet) (m : Model) (c : Counts) (ns : c .names ≡ clamp maxNames (b .names)) (rs : c .rules ≡ clamp maxRules (b .rules))
-    (fs : c .facts ≡ length (members capacity (setOf (facts .words)))) (ks : c .rounds ≡ m .rounds) where
+-- by the counts that the code has
+module _ (text lengths : List ℕ) (c : Counts) where
   abbrev names : List (List ℕ)
-  names = namesIn (b .text) (b .lengths) (c .names)
+  names = namesIn text lengths (c .names)
 
-  by-counts : (k : Clash) → clashIn (setOf (m .truths .words)) ≡ k → listingHeld b facts m ≡ listingBy names (c .rules) (c .facts) (c .rounds) (verdictsBy m) k
+  pub clear-is : headerOf text lengths c None ≡ field modelWord comma ++ countsTo newline c
+  unfolding headerBy line
+  clear-is = rw (names-count text lengths (c .names)) refl
+
+  pub clash-is : (n : ℕ) → headerOf text lengths c (Name n) ≡ field contradictionWord comma ++ (countsTo comma c ++ field (getD names n []) newline)
+  unfolding headerBy line
+  clash-is n = rw (names-count text lengths (c .names)) (simp append-assoc)
+
+module _ (b : Book) (facts : LitSet) (m : Marks) (c : Counts) (ns : c .names ≡ clamp maxNames (b .names)) (rs : c .rules ≡ clamp maxRules (b .rules))
+    (fs : c .facts ≡ length (members capacity (setOf (facts .words)))) (ks : c .rounds ≡ m .model .rounds) where
+  pub listing-parts : (k : Clash) → k ≡ clashIn (setOf (m .model .truths .words))
+      → listingHeld b facts m ≡ headerOf (b .text) (b .lengths) c k ++ nameLines (wordsBy m) 0 (namesIn (b .text) (b .lengths) (c .names))
   unfolding listingBySets
-  by-counts k e = rw (ns, rs, fs, ks, e, rules-counted b)
-
-  pub clear-parts : clashIn (setOf (m .truths .words)) ≡ None
-      → listingHeld b facts m ≡ field modelWord comma ++ (countsTo newline c ++ nameLines (verdictsBy m) 0 names)
-  clear-parts e = by-counts None e ∙ clear-is names c (sym (names-count (b .text) (b .lengths) (c .names))) (verdictsBy m)
-
-  pub clash-parts : (k : ℕ) → clashIn (setOf (m .truths .words)) ≡ Name k
-      → listingHeld b facts m ≡ field contradictionWord comma ++ (countsTo comma c ++ field (getD names k []) newline)
-  clash-parts k e = by-counts (Name k) e ∙ clash-is names c (sym (names-count (b .text) (b .lengths) (c .names))) (verdictsBy m) k
+  listing-parts k e = rw (ns, rs, fs, ks, e, rules-counted b)
 
 pub refusal-is : (number at : ℕ) → refusalOf number at ≡ field refusedWord comma ++ (field (digits number) comma ++ field (digits at) newline)
 unfolding refusalOf line
@@ -97,10 +90,18 @@ length-field f stop = length-append f (stop ∷ [])
 number-most : (n stop : ℕ) → n < 10 ^ 20 → length (field (digits n) stop) ≤ 21
 number-most n stop h = omega (arith, length-field (digits n) stop, digits-most 19 n h)
 
-verdict-most : (v : Verdict) → length (verdictWord v) ≤ 9
+verdict-most : (v : Verdict) → length (verdictWord v) ≤ 13
 verdict-most is-true = omega arith
 verdict-most is-false = omega arith
 verdict-most is-undefined = omega arith
+
+-- no word of a verdict field is longer than `contradictory`
+mark-most : (v : ℕ → Verdict) (C : Set) (A : ℕ) → length (markWord v C A) ≤ 13
+mark-most v C A = go (C A)
+  where
+    go : (b : Bool) → length (cond b contradictoryWord (verdictWord (v A))) ≤ 13
+    go true = omega arith
+    go false = verdict-most (v A)
 
 -- every count is a number of the machine
 record Small (c : Counts) : Type 0 where
@@ -123,76 +124,76 @@ counts-most stop c small =
       number-most (c .rounds) stop (small .rounds),
     )
 
-line-most : (v : ℕ → Verdict) (k : ℕ) (name : List ℕ) → k < 10 ^ 20 → length name ≤ maxLength → length (nameLine v k name) ≤ maxLength + 42
-line-most v k name h l =
-    let first = verdictWord (v (2 * k)) in
-    let second = verdictWord (v (2 * k + 1)) in
+module _ (w : ℕ → List ℕ) (words : (A : ℕ) → length (w A) ≤ 13) where
+  line-most : (k : ℕ) (name : List ℕ) → k < 10 ^ 20 → length name ≤ maxLength → length (nameLine w k name) ≤ maxLength + 50
+  line-most k name h l =
+      let first = w (2 * k) in
+      let second = w (2 * k + 1) in
+      omega (
+        arith,
+        ap length (name-line-is w k name),
+        length-append (field (digits k) comma) (field name comma ++ verdictsEnd w k),
+        length-append (field name comma) (verdictsEnd w k),
+        length-append (field first comma) (field second newline),
+        length-field name comma,
+        length-field first comma,
+        length-field second newline,
+        number-most k comma h,
+        words (2 * k),
+        words (2 * k + 1),
+      )
+
+  lines-most : (f : ℕ → List ℕ) → ((k : ℕ) → length (f k) ≤ maxLength) → (k n : ℕ) → k + n < 10 ^ 20 → length (nameLines w k (rows f k n)) ≤ (maxLength + 50) * n
+  unfolding nameLines
+  lines-most f short k zero h = rw (rows-none f k) (omega arith)
+  lines-most f short k (suc n) h =
+      rw (rows-first f k n) (omega (arith, length-append (nameLine w k (f k)) (nameLines w (suc k) (rows f (suc k) n)), line-most k (f k) (omega arith) (short k), lines-most f short (suc k) n (omega arith)))
+
+header-most : (text lengths : List ℕ) (c : Counts) → Small c → (k : Clash) → length (headerOf text lengths c k) ≤ maxLength + 99
+header-most text lengths c small None =
     omega (
       arith,
-      ap length (name-line-is v k name),
-      length-append (field (digits k) comma) (field name comma ++ verdictsEnd v k),
-      length-append (field name comma) (verdictsEnd v k),
-      length-append (field first comma) (field second newline),
-      length-field name comma,
-      length-field first comma,
-      length-field second newline,
-      number-most k comma h,
-      verdict-most (v (2 * k)),
-      verdict-most (v (2 * k + 1)),
+      ap length (clear-is text lengths c),
+      length-append (field modelWord comma) (countsTo newline c),
+      counts-most newline c small,
+    )
+header-most text lengths c small (Name k) =
+    let last = getD (namesIn text lengths (c .names)) k [] in
+    omega (
+      arith,
+      ap length (clash-is text lengths c k),
+      length-append (field contradictionWord comma) (countsTo comma c ++ field last newline),
+      length-append (countsTo comma c) (field last newline),
+      counts-most comma c small,
+      length-field last newline,
+      name-short text lengths (c .names) k,
     )
 
-lines-most : (v : ℕ → Verdict) (f : ℕ → List ℕ) → ((k : ℕ) → length (f k) ≤ maxLength) → (k n : ℕ) → k + n < 10 ^ 20 → length (nameLines v k (rows f k n)) ≤ (maxLength + 42) * n
-unfolding nameLines
-lines-most v f short k zero h = rw (rows-none f k) (omega arith)
-lines-most v f short k (suc n) h =
-    rw (rows-first f k n) (omega (arith, length-append (nameLine v k (f k)) (nameLines v (suc k) (rows f (suc k) n)), line-most v k (f k) (omega arith) (short k), lines-most v f short (suc k) n (omega arith)))
-
-module _ (text lengths : List ℕ) (c : Counts) (v : ℕ → Verdict) (few : c .names ≤ maxNames) (small : Small c) where
-  room-by : (k : Clash) → Room (listingBy (namesIn text lengths (c .names)) (c .rules) (c .facts) (c .rounds) v k) 0
-  room-by None =
-      let names = namesIn text lengths (c .names) in
-      record {
-        fits =
-            omega (
-              arith,
-              ap length (clear-is names c (sym (names-count text lengths (c .names))) v),
-              length-append (field modelWord comma) (countsTo newline c ++ nameLines v 0 names),
-              length-append (countsTo newline c) (nameLines v 0 names),
-              counts-most newline c small,
-              lines-most v (nameAt text lengths) (name-most text lengths) 0 (c .names) (omega arith),
-            );
-      }
-  room-by (Name k) =
-      let names = namesIn text lengths (c .names) in
-      let last = getD names k [] in
-      record {
-        fits =
-            omega (
-              arith,
-              ap length (clash-is names c (sym (names-count text lengths (c .names))) v k),
-              length-append (field contradictionWord comma) (countsTo comma c ++ field last newline),
-              length-append (countsTo comma c) (field last newline),
-              counts-most comma c small,
-              length-field last newline,
-              name-short text lengths (c .names) k,
-            );
-      }
-
 -- the rounds of a model in memory are a number of the machine
-pub listing-room : (b : Book) (facts : LitSet) (m : Model) → m .rounds < 10 ^ 20 → Room (listingHeld b facts m) 0
-unfolding listingBySets
+pub listing-room : (b : Book) (facts : LitSet) (m : Marks) → m .model .rounds < 10 ^ 20 → Room (listingHeld b facts m) 0
 listing-room b facts m h =
-    let names = clamp maxNames (b .names) in
     let few = clamp-most maxNames (b .names) in
-    let putIn = length (members capacity (setOf (facts .words))) in
-    room-by (b .text) (b .lengths) (record { names = names; rules = length (rulesOf b); facts = putIn; rounds = m .rounds }) (verdictsBy m) few
-    (record {
+    let c : Counts =
+    record { names = clamp maxNames (b .names); rules = clamp maxRules (b .rules); facts = length (members capacity (setOf (facts .words))); rounds = m .model .rounds } in
+    let small : Small c =
+    record {
       names = omega arith;
-      rules = omega (arith, rules-counted b, clamp-most maxRules (b .rules));
+      rules = omega (arith, clamp-most maxRules (b .rules));
       facts = omega (arith, length-most (setOf (facts .words)) 0 capacity);
       rounds = h;
-    })
-    (clashIn (setOf (m .truths .words)))
+    } in
+    let clash = clashIn (setOf (m .model .truths .words)) in
+    let lines = nameLines (wordsBy m) 0 (namesIn (b .text) (b .lengths) (c .names)) in
+    record {
+      fits =
+          omega (
+            arith,
+            ap length (listing-parts b facts m c refl refl refl refl clash refl),
+            length-append (headerOf (b .text) (b .lengths) c clash) lines,
+            header-most (b .text) (b .lengths) c small clash,
+            lines-most (wordsBy m) (mark-most (verdictsBy (m .model)) (setOf (m .contradictory .words))) (nameAt (b .text) (b .lengths)) (name-most (b .text) (b .lengths)) 0 (c .names) (omega arith),
+          );
+    }
 
 pub refusal-room : (number at : ℕ) → number < 10 ^ 20 → at < 10 ^ 20 → Room (refusalOf number at) 0
 refusal-room number at h l =

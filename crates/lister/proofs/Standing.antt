@@ -1,22 +1,38 @@
--- With M, N and the rounds of a book's rules and the facts in the place of its two sets and its number, the listing by sets is the listing of document 01.
-use mathlib.Core.Path.{_≡_, _∙_, ap, ap₂, fun-ext}
+-- With M, N, the contradictory names and the rounds of a book's rules and the facts in the place of its three sets and its number, the listing by sets is
+-- the listing of document 01. Of the third set the literals of the names matter alone.
+use mathlib.Core.Path.{_≡_, refl, ap, ap₂}
+use mathlib.Core.List.{List, [], _∷_, _++_}
+use Prim.Native.Nat.{ℕ, suc, _+_, _*_, _<_}
+use native.Mathlib.Omega.{arith}
 use lib.ListN.{length}
-use mathlib.Core.List.{List}
-use Prim.Native.Nat.{ℕ}
 use Rattle.wfsx.specs.Sets.{Set, members}
 use Rattle.wfsx.specs.Program.{Rule}
 use Rattle.wfsx.specs.Model.{M, N, verdict}
 use Rattle.wfsx.specs.Rounds.{rounds}
+use Rattle.wfsx.specs.Reach.{nameOf, literalsOf}
+use Rattle.wfsx.specs.ContradictoryNames.{contradictoryNames}
 use Rattle.litset.specs.Words.{capacity, clashIn}
+use Rattle.litset.specs.declared.Clash.{Clash}
 use Rattle.book.specs.Book.{program}
 use Rattle.fixpoint.proofs.Published.{verdict-same}
-use Rattle.lister.specs.Listing.{listingBy, listingBySets, listingOf}
+use Rattle.lister.specs.Listing.{digits, line, markWord, nameLines, headerBy, listingBySets, listingOf}
 
-module _ (names : List (List ℕ)) (rules : List Rule) (facts T U : Set) (k : ℕ) where
-  pub listing-stands : T ≡ M (program rules facts) → U ≡ N (program rules facts) → k ≡ rounds (program rules facts)
-      → listingBySets names rules facts T U k ≡ listingOf names rules facts
+-- lines with the same words are the same
+lines-same : (w x : ℕ → List ℕ) (k : ℕ) (names : List (List ℕ)) → ((A : ℕ) → A < 2 * (k + length names) → w A ≡ x A) → nameLines w k names ≡ nameLines x k names
+unfolding nameLines
+lines-same w x k [] same = refl
+lines-same w x k (name ∷ names) same =
+    ap₂ (λ (a b : List ℕ). a ++ b)
+    (ap₂ (λ (a b : List ℕ). line (digits k) (name ∷ a ∷ b ∷ [])) (same (2 * k) (omega arith)) (same (2 * k + 1) (omega arith)))
+    (lines-same w x (suc k) names (λ A h. same A (omega arith)))
+
+module _ (names : List (List ℕ)) (rules : List Rule) (facts T U C : Set) (k : ℕ) where
+  pub listing-stands : T ≡ M (program rules facts) → U ≡ N (program rules facts)
+      → ((A : ℕ) → A < 2 * length names → C A ≡ contradictoryNames (program rules facts) (nameOf A)) → k ≡ rounds (program rules facts)
+      → listingBySets names rules facts T U C k ≡ listingOf names rules facts
   unfolding listingBySets listingOf
-  listing-stands t u n =
+  listing-stands t u c n =
       let P = program rules facts in
-      ap₂ (listingBy names (length rules) (length (members capacity facts)) k) (fun-ext (verdict-same P T U t u)) (ap clashIn t)
-      ∙ ap (λ (j : ℕ). listingBy names (length rules) (length (members capacity facts)) j (verdict P) (clashIn (M P))) n
+      ap₂ (λ (a b : List ℕ). a ++ b)
+      (ap₂ (λ (j : ℕ) (clash : Clash). headerBy names (length rules) (length (members capacity facts)) j clash) n (ap clashIn t))
+      (lines-same _ (markWord (verdict P) (literalsOf (contradictoryNames P))) 0 names (λ A h. rw (c A (omega arith), verdict-same P T U t u A) refl))

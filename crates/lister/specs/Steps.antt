@@ -4,9 +4,10 @@ use mathlib.Core.List.{List, _++_}
 use Prim.Native.Nat.{ℕ, _+_, _*_, _≤_}
 use lib.ListN.{length}
 use lib.Seq.{sets}
-use Rattle.wfsx.specs.Model.{Verdict}
+use Rattle.litset.specs.declared.Clash.{Clash}
+use Rattle.book.specs.Book.{namesIn}
 use Rattle.scan.specs.Text.{comma, newline}
-use Rattle.lister.specs.Listing.{verdictWord, digits, field}
+use Rattle.lister.specs.Listing.{digits, field, headerBy}
 use Rattle.lister.specs.declared.Counts.{Counts}
 
 -- Bytes that stand from `at` on end early enough for every place to be a number of the machine; no listing is longer.
@@ -23,6 +24,10 @@ abbrev pub countsTo : ℕ → Counts → List ℕ
 countsTo stop c =
     field (digits (c .names)) comma ++ (field (digits (c .rules)) comma ++ (field (digits (c .facts)) comma ++ field (digits (c .rounds)) stop))
 
--- the verdicts of name k as the end of its line
-abbrev pub verdictsEnd : (ℕ → Verdict) → ℕ → List ℕ
-verdictsEnd v k = field (verdictWord (v (2 * k))) comma ++ field (verdictWord (v (2 * k + 1))) newline
+-- the header by the counts that it has
+abbrev pub headerOf : (text lengths : List ℕ) → Counts → Clash → List ℕ
+headerOf text lengths c clash = headerBy (namesIn text lengths (c .names)) (c .rules) (c .facts) (c .rounds) clash
+
+-- the verdict fields of name k as the end of its line
+abbrev pub verdictsEnd : (ℕ → List ℕ) → ℕ → List ℕ
+verdictsEnd w k = field (w (2 * k)) comma ++ field (w (2 * k + 1)) newline

@@ -6,9 +6,9 @@ ghost use lib.ListN.{getD};
 ghost use Rattle.book.specs.Limits.{maxNames};
 ghost use Rattle.book.specs.Book.{nameAt, namesIn};
 ghost use Rattle.scan.specs.Text.{newline};
-ghost use Rattle.lister.specs.Listing.{verdictWord, digits, field, nameLine, nameLines, verdictsBy, listingHeld, refusalOf};
+ghost use Rattle.lister.specs.Listing.{verdictWord, digits, field, nameLine, nameLines, verdictsBy, wordsBy, listingHeld, refusalOf};
 ghost use Rattle.lister.specs.Buffer.{Writes};
-ghost use Rattle.lister.specs.Steps.{Room, Put, countsTo, verdictsEnd};
+ghost use Rattle.lister.specs.Steps.{Room, Put, countsTo, verdictsEnd, headerOf};
 use book::Book;
 use fixpoint::Model;
 use fixpoint::Verdict;
@@ -19,6 +19,13 @@ use litset::LitSet;
 pub enum Written {
     Length(usize),
     Short,
+}
+
+// What a listing shows of a lesson: its model, and the literals whose verdicts 24 would refuse.
+#[repr(C)]
+pub struct Marks {
+    pub model: Model,
+    pub contradictory: LitSet,
 }
 
 // The counts of a header.
@@ -84,6 +91,17 @@ fn put_verdict(t: &mut [u8], at: usize, model: Model, l: usize, stop: u8) -> usi
     }
 }
 
+// The word in the verdict field of a literal, and the byte `stop` behind it.
+fn put_mark(t: &mut [u8], at: usize, marks: Marks, l: usize, stop: u8) -> usize
+    requires { ⌜ Room (field (wordsBy marks l) stop) at ⌝ }
+    ensures { λ r. ⌜ Put (field (wordsBy marks l) stop) at (now (t .entry)) (now (t .exit)) r ⌝ }
+{
+    if litset::contains(marks.contradictory, l) {
+        return put_word(t, at, b"contradictory", stop);
+    }
+    put_verdict(t, at, marks.model, l, stop)
+}
+
 // ---- lines
 
 // The counts of a header, and the byte `stop` behind the last.
@@ -97,13 +115,13 @@ fn put_counts(t: &mut [u8], at: usize, counts: Counts, stop: u8) -> usize
     put_number(t, r, counts.rounds, stop)
 }
 
-// The verdict of name k and the verdict of its explicit negation, the end of its line.
-fn put_verdicts(t: &mut [u8], at: usize, model: Model, k: usize) -> usize
-    requires { ⌜ Room (verdictsEnd (verdictsBy model) k) at × (k < maxNames) ⌝ }
-    ensures { λ r. ⌜ Put (verdictsEnd (verdictsBy model) k) at (now (t .entry)) (now (t .exit)) r ⌝ }
+// The verdict field of name k and that of its explicit negation, the end of its line.
+fn put_verdicts(t: &mut [u8], at: usize, marks: Marks, k: usize) -> usize
+    requires { ⌜ Room (verdictsEnd (wordsBy marks) k) at × (k < maxNames) ⌝ }
+    ensures { λ r. ⌜ Put (verdictsEnd (wordsBy marks) k) at (now (t .entry)) (now (t .exit)) r ⌝ }
 {
-    let p = put_verdict(t, at, model, 2 * k, b',');
-    put_verdict(t, p, model, 2 * k + 1, b'\n')
+    let p = put_mark(t, at, marks, 2 * k, b',');
+    put_mark(t, p, marks, 2 * k + 1, b'\n')
 }
 
 // The line of name k.
@@ -113,15 +131,15 @@ fn put_name_line<'a>(
     text: &'a [u8],
     lengths: &'a [u8],
     k: usize,
-    model: Model,
+    marks: Marks,
 ) -> usize
-    requires { ⌜ Room (nameLine (verdictsBy model) k (nameAt (now text) (now lengths) k)) at × (k < maxNames) ⌝ }
-    ensures { λ r. ⌜ Put (nameLine (verdictsBy model) k (nameAt (now (text .entry)) (now (lengths .entry)) k))
+    requires { ⌜ Room (nameLine (wordsBy marks) k (nameAt (now text) (now lengths) k)) at × (k < maxNames) ⌝ }
+    ensures { λ r. ⌜ Put (nameLine (wordsBy marks) k (nameAt (now (text .entry)) (now (lengths .entry)) k))
         at (now (t .entry)) (now (t .exit)) r ⌝ }
 {
     let p = put_number(t, at, k, b',');
     let q = put_word(t, p, book::name_at(text, lengths, k), b',');
-    put_verdicts(t, q, model, k)
+    put_verdicts(t, q, marks, k)
 }
 
 // The lines of the first `count` names.
@@ -131,16 +149,16 @@ fn put_name_lines<'a>(
     text: &'a [u8],
     lengths: &'a [u8],
     count: usize,
-    model: Model,
+    marks: Marks,
 ) -> usize
-    requires { ⌜ Room (nameLines (verdictsBy model) 0 (namesIn (now text) (now lengths) count)) at × (count ≤ maxNames) ⌝ }
-    ensures { λ r. ⌜ Put (nameLines (verdictsBy model) 0 (namesIn (now (text .entry)) (now (lengths .entry)) count))
+    requires { ⌜ Room (nameLines (wordsBy marks) 0 (namesIn (now text) (now lengths) count)) at × (count ≤ maxNames) ⌝ }
+    ensures { λ r. ⌜ Put (nameLines (wordsBy marks) 0 (namesIn (now (text .entry)) (now (lengths .entry)) count))
         at (now (t .entry)) (now (t .exit)) r ⌝ }
 {
     let mut p = at;
     let mut k = 0;
     while k < count {
-        p = put_name_line(t, p, text, lengths, k, model);
+        p = put_name_line(t, p, text, lengths, k, marks);
         k += 1;
     }
     p
@@ -167,29 +185,42 @@ fn put_name_end<'a>(
 
 // ---- the listing, from the start of a buffer on
 
-fn put_listing(t: &mut [u8], book: Book, facts: LitSet, model: Model) -> usize
-    ensures { λ r. ⌜ Put (listingHeld book facts model) 0 (now (t .entry)) (now (t .exit)) r ⌝ }
+fn put_header<'a>(
+    t: &mut [u8],
+    text: &'a [u8],
+    lengths: &'a [u8],
+    counts: Counts,
+    clash: Clash,
+) -> usize
+    requires { ⌜ Room (headerOf (now text) (now lengths) counts clash) 0 ⌝ }
+    ensures { λ r. ⌜ Put (headerOf (now (text .entry)) (now (lengths .entry)) counts clash) 0 (now (t .entry)) (now (t .exit)) r ⌝ }
+{
+    match clash {
+        Clash::None => {
+            let p = put_word(t, 0, b"model", b',');
+            return put_counts(t, p, counts, b'\n');
+        }
+        Clash::Name(k) => {
+            let p = put_word(t, 0, b"contradiction", b',');
+            let q = put_counts(t, p, counts, b',');
+            return put_name_end(t, q, text, lengths, counts.names, k);
+        }
+    }
+}
+
+fn put_listing(t: &mut [u8], book: Book, facts: LitSet, marks: Marks) -> usize
+    ensures { λ r. ⌜ Put (listingHeld book facts marks) 0 (now (t .entry)) (now (t .exit)) r ⌝ }
 {
     let names = book::name_count(book);
     let counts = Counts {
         names,
         rules: book::rule_count(book),
         facts: litset::count(facts),
-        rounds: model.rounds,
+        rounds: marks.model.rounds,
     };
-    let clash = litset::lowest_both(model.truths);
-    match clash {
-        Clash::None => {
-            let p = put_word(t, 0, b"model", b',');
-            let q = put_counts(t, p, counts, b'\n');
-            return put_name_lines(t, q, &book.text, &book.lengths, names, model);
-        }
-        Clash::Name(k) => {
-            let p = put_word(t, 0, b"contradiction", b',');
-            let q = put_counts(t, p, counts, b',');
-            return put_name_end(t, q, &book.text, &book.lengths, names, k);
-        }
-    }
+    let clash = litset::lowest_both(marks.model.truths);
+    let p = put_header(t, &book.text, &book.lengths, counts, clash);
+    put_name_lines(t, p, &book.text, &book.lengths, names, marks)
 }
 
 fn put_refusal(t: &mut [u8], number: u8, line: usize) -> usize
@@ -202,16 +233,16 @@ fn put_refusal(t: &mut [u8], number: u8, line: usize) -> usize
 
 // ---- the calls: a buffer of one byte tells the length, since the place behind the bytes does not depend on how many fit
 
-// The listing of a book, the facts put in and a model of them.
-pub fn write(book: Book, facts: LitSet, model: Model, buffer: &mut [u8]) -> Written
-    ensures { λ r. ⌜ Writes (listingHeld book facts model) (now (buffer .entry)) r (now (buffer .exit)) ⌝ }
+// The listing of a book, the facts put in and the marks of them.
+pub fn write(book: Book, facts: LitSet, marks: Marks, buffer: &mut [u8]) -> Written
+    ensures { λ r. ⌜ Writes (listingHeld book facts marks) (now (buffer .entry)) r (now (buffer .exit)) ⌝ }
 {
     let mut tried = [0u8; 1];
-    let length = put_listing(&mut tried, book, facts, model);
+    let length = put_listing(&mut tried, book, facts, marks);
     if buffer.len() < length {
         return Written::Short;
     }
-    put_listing(buffer, book, facts, model);
+    put_listing(buffer, book, facts, marks);
     Written::Length(length)
 }
 

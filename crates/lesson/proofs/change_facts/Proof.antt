@@ -1,4 +1,4 @@
--- `change_facts`: a refused change returns the lesson, and an accepted one makes its facts and then its model.
+-- `change_facts`: a refused change returns the lesson, and an accepted one makes its facts and then its marks.
 use borrow.Author.Needs.{needs}
 use Rattle.lesson.proofs.Replies.{change-refused, change-room, change-done}
 use Rattle.lesson.proofs.change_facts.Statement.{statement}
@@ -16,14 +16,14 @@ facts-after-requires c κs = change-room _ _ _ _ (c .before .change-refusal .ens
 in-force-requires : tie.Need-in-force-requires
 in-force-requires c κs = search needs
 
-model-with-requires : tie.Need-model-with-requires
-model-with-requires c κs = search needs
+marks-with-requires : tie.Need-marks-with-requires
+marks-with-requires c κs = search needs
 
 returns-2 : tie.Need-returns-2
 returns-2 c =
     let made = c .before .before in
-    change-done _ _ _ _ (made .before .before .change-refusal .ensures) (made .before .if1 .left) (made .facts-after .result) (c .model-with .result)
-    (made .facts-after .ensures) _ (c .before .in-force .ensures) (c .model-with .ensures)
+    change-done _ _ _ _ (made .before .before .change-refusal .ensures) (made .before .if1 .left) (made .facts-after .result) (c .marks-with .result)
+    (made .facts-after .ensures) _ (c .before .in-force .ensures) (c .marks-with .ensures)
 
 pub change-facts-spec : {M : Type 1} → statement M
 change-facts-spec =
@@ -33,5 +33,5 @@ change-facts-spec =
     returns
     facts-after-requires
     in-force-requires
-    model-with-requires
+    marks-with-requires
     returns-2)

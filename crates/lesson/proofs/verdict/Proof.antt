@@ -1,4 +1,4 @@
--- `verdict`: a clash of the set that stands for M is a 24, and without one the verdict is read from both sets.
+-- `verdict`: a literal of the third set is a 24, and the verdict of any other is read from the two others.
 use borrow.Author.Needs.{needs}
 use Rattle.lesson.proofs.Replies.{verdict-state, verdict-24, verdict-given}
 use Rattle.lesson.proofs.verdict.Statement.{statement}
@@ -10,28 +10,23 @@ state-refusal-requires c κs = search needs
 returns : tie.Need-returns
 returns c = verdict-state _ _ _ _ (c .before .state-refusal .ensures) (c .if1 .taken)
 
-lowest-both-requires : tie.Need-lowest-both-requires
-lowest-both-requires c κs = search needs
-
-enum-told : tie.Need-enum-told
-enum-told c = search needs
+contains-requires : tie.Need-contains-requires
+contains-requires c κs = search needs
 
 returns-2 : tie.Need-returns-2
 returns-2 c =
-    let looked = c .before .before in
-    verdict-24 _ _ _ _ (looked .before .before .state-refusal .ensures) (looked .before .if1 .left) _ (looked .lowest-both .ensures) _ (c .enum-told .given .1)
-
-enum-told-2 : tie.Need-enum-told-2
-enum-told-2 c = search needs
+    let asked = c .before .before in
+    verdict-24 _ _ _ _ (asked .before .state-refusal .ensures) (asked .if1 .left) _ (c .before .contains .ensures) (c .if2 .taken)
 
 verdict-of-requires : tie.Need-verdict-of-requires
 verdict-of-requires c κs = search needs
 
 returns-3 : tie.Need-returns-3
 returns-3 c =
-    let looked = c .before .before .before in
-    verdict-given _ _ _ _ (looked .before .before .state-refusal .ensures) (looked .before .if1 .left) _ (looked .lowest-both .ensures)
-    (c .before .enum-told2 .given .1) (c .verdict-of .result) (c .verdict-of .ensures)
+    let looked = c .before .before in
+    let asked = looked .before in
+    verdict-given _ _ _ _ (asked .before .state-refusal .ensures) (asked .if1 .left) _ (looked .contains .ensures) (c .before .if2 .left) (c .verdict-of .result)
+    (c .verdict-of .ensures)
 
 pub verdict-spec : {M : Type 1} → statement M
 verdict-spec =
@@ -39,9 +34,7 @@ verdict-spec =
     (tie.spec
     state-refusal-requires
     returns
-    lowest-both-requires
-    enum-told
+    contains-requires
     returns-2
-    enum-told-2
     verdict-of-requires
     returns-3)

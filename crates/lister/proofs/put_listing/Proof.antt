@@ -1,98 +1,55 @@
--- `put_listing`: the word, the counts and the names' lines, or the word, the counts and a name, one behind the other.
+-- `put_listing`: the header and the names' lines, one behind the other.
 use borrow.Author.Needs.{needs}
-use mathlib.Core.Path.{_≡_, refl, sym, _∙_}
-use mathlib.Core.List.{List, [], _++_}
+use mathlib.Core.Path.{_≡_, refl}
+use mathlib.Core.List.{List, _++_}
 use Prim.Native.Nat.{ℕ}
-use lib.ListN.{getD}
+use native.Mathlib.Omega.{arith}
 use Rattle.book.specs.Book.{namesIn}
 use Rattle.book.specs.Limits.{maxNames}
 use Rattle.book.proofs.Counts.{clamp-most}
-use Rattle.scan.specs.Text.{comma, newline}
-use Rattle.lister.specs.Listing.{modelWord, contradictionWord, field, nameLines, verdictsBy, listingHeld}
-use Rattle.lister.specs.Steps.{Room, countsTo}
+use Rattle.lister.specs.Listing.{nameLines, wordsBy, listingHeld}
+use Rattle.lister.specs.Steps.{Room, headerOf}
 use Rattle.lister.specs.declared.Counts.{Counts}
-use Rattle.lister.proofs.Stored.{put-then, room-second, room-third}
-use Rattle.lister.proofs.Lines.{clear-parts, clash-parts, listing-room}
-use native.Mathlib.Omega.{arith}
+use Rattle.lister.proofs.Stored.{put-then, room-first, room-rest}
+use Rattle.lister.proofs.Lines.{listing-parts, listing-room}
 use Rattle.lister.proofs.put_listing.Statement.{statement}
 use Rattle.lister.proofs.put_listing.Tie as tie
 
--- the places: the counts, in each arm the clash that it is told, the word, the counts written and the rest
-abbrev at-start : tie.After-count → tie.Start
-at-start c = c .before .before .before .before
+-- the places: the start, the clash looked for, and the header written
+abbrev at-start : tie.After-lowest-both → tie.Start
+at-start c = c .before .before .before .before .before
 
-abbrev told-counts : tie.After-enum-told → tie.After-count
-told-counts c = c .before .before .before
+abbrev at-clash : tie.After-put-header → tie.After-lowest-both
+at-clash c = c .before .before .before .before .before .before .before
 
-abbrev clash-counts : tie.After-clash → tie.After-count
-clash-counts c = c .before .before .before
-
-abbrev at-clear : tie.After-put-word → tie.After-enum-told
-at-clear c = c .before .before .before
-
-abbrev at-word : tie.After-put-counts → tie.After-put-word
-at-word c = c .before .before .before .before
-
-abbrev at-header : tie.After-put-name-lines → tie.After-put-counts
+abbrev at-header : tie.After-put-name-lines → tie.After-put-header
 at-header c = c .before .before .before .before .before .before .before .before .before
 
-abbrev at-clash : tie.After-put-word2 → tie.After-clash
-at-clash c = c .before .before .before .before
-
-abbrev at-word-2 : tie.After-put-counts2 → tie.After-put-word2
-at-word-2 c = c .before .before .before .before
-
-abbrev at-header-2 : tie.After-put-name-end → tie.After-put-counts2
-at-header-2 c = c .before .before .before .before .before .before .before .before .before
-
-abbrev whole : tie.After-count → List ℕ
-whole c = listingHeld (at-start c .args .t2) (at-start c .args .facts) (at-start c .args .model)
-
-abbrev counts : tie.After-count → Counts
+-- the parts
+abbrev counts : tie.After-lowest-both → Counts
 counts c =
     record {
-      names = c .before .before .name-count .result;
-      rules = c .before .rule-count .result;
-      facts = c .count .result;
-      rounds = at-start c .args .model .rounds;
+      names = c .before .before .before .name-count .result;
+      rules = c .before .before .rule-count .result;
+      facts = c .before .count .result;
+      rounds = at-start c .args .marks .model .rounds;
     }
 
-abbrev header : tie.After-count → ℕ → List ℕ
-header c stop = countsTo stop (counts c)
+abbrev header : tie.After-lowest-both → List ℕ
+header c = let b = at-start c .args .t2 in headerOf (b .text) (b .lengths) (counts c) (c .lowest-both .result)
 
-abbrev names : tie.After-count → List (List ℕ)
-names c = namesIn (at-start c .args .t2 .text) (at-start c .args .t2 .lengths) (c .before .before .name-count .result)
+abbrev lines : tie.After-lowest-both → List ℕ
+lines c = let b = at-start c .args .t2 in nameLines (wordsBy (at-start c .args .marks)) 0 (namesIn (b .text) (b .lengths) (counts c .names))
 
-whole-room : (c : tie.After-count) → Room (whole c) 0
-whole-room c = listing-room (at-start c .args .t2) (at-start c .args .facts) (at-start c .args .model) (omega arith)
+parts : (c : tie.After-lowest-both) → let a = at-start c .args in listingHeld (a .t2) (a .facts) (a .marks) ≡ header c ++ lines c
+parts c =
+    let a = at-start c .args in
+    let counted = c .before in
+    listing-parts (a .t2) (a .facts) (a .marks) (counts c) (counted .before .before .name-count .ensures) (counted .before .rule-count .ensures) (counted .count .ensures) refl
+    (c .lowest-both .result) (c .lowest-both .ensures)
 
--- the parts of the listing without a clash
-abbrev lines : tie.After-count → List ℕ
-lines c = nameLines (verdictsBy (at-start c .args .model)) 0 (names c)
-
-clear : (c : tie.After-enum-told) → whole (told-counts c) ≡ field modelWord comma ++ (header (told-counts c) newline ++ lines (told-counts c))
-clear c =
-    let counted = told-counts c in
-    let a = at-start counted .args in
-    clear-parts (a .t2) (a .facts) (a .model) (counts counted) (counted .before .before .name-count .ensures) (counted .before .rule-count .ensures) (counted .count .ensures) refl
-    (sym (c .before .before .lowest-both .ensures) ∙ c .enum-told .given .1)
-
-clear-room : (c : tie.After-enum-told) → Room (field modelWord comma ++ (header (told-counts c) newline ++ lines (told-counts c))) 0
-clear-room c = rw (clear c) at (whole-room (told-counts c))
-
--- the parts of the listing with a clash
-abbrev name : tie.After-clash → List ℕ
-name c = field (getD (names (clash-counts c)) (c .clash .given .0 .0) []) newline
-
-clash : (c : tie.After-clash) → whole (clash-counts c) ≡ field contradictionWord comma ++ (header (clash-counts c) comma ++ name c)
-clash c =
-    let counted = clash-counts c in
-    let a = at-start counted .args in
-    clash-parts (a .t2) (a .facts) (a .model) (counts counted) (counted .before .before .name-count .ensures) (counted .before .rule-count .ensures) (counted .count .ensures) refl
-    (c .clash .given .0 .0) (sym (c .before .before .lowest-both .ensures) ∙ c .clash .given .1)
-
-clash-room : (c : tie.After-clash) → Room (field contradictionWord comma ++ (header (clash-counts c) comma ++ name c)) 0
-clash-room c = rw (clash c) at (whole-room (clash-counts c))
+parts-room : (c : tie.After-lowest-both) → Room (header c ++ lines c) 0
+parts-room c = let a = at-start c .args in rw (parts c) at (listing-room (a .t2) (a .facts) (a .marks) (omega arith))
 
 name-count-requires : tie.Need-name-count-requires
 name-count-requires c κs = search needs
@@ -106,29 +63,16 @@ count-requires c κs = search needs
 lowest-both-requires : tie.Need-lowest-both-requires
 lowest-both-requires c κs = search needs
 
-enum-told : tie.Need-enum-told
-enum-told c = search needs
-
-slice-aggregate-put-word : tie.Need-slice-aggregate-put-word
-slice-aggregate-put-word c = search needs
-
-put-word-requires : tie.Need-put-word-requires
-put-word-requires c κs = search needs
-
-put-counts-requires : tie.Need-put-counts-requires
-put-counts-requires c κs =
-    let word = c .before .before .before in
-    let counted = told-counts (at-clear word) in
-    room-second (field modelWord comma) (header counted newline) (lines counted) (clear-room (at-clear word)) (word .put-word .ensures)
+put-header-requires : tie.Need-put-header-requires
+put-header-requires c κs = let found = c .before .before .before .before .before .before in room-first (header found) (lines found) (parts-room found)
 
 put-name-lines-requires : tie.Need-put-name-lines-requires
 put-name-lines-requires c κs =
     let head = c .before .before .before .before .before .before .before .before in
-    let word = at-word head in
-    let counted = told-counts (at-clear word) in
-    let most = clamp-most maxNames (at-start counted .args .t2 .names) in
-    let count = counted .before .before .name-count .ensures in
-    (room-third (field modelWord comma) (header counted newline) (lines counted) (clear-room (at-clear word)) (word .put-word .ensures) (head .put-counts .ensures), omega arith)
+    let found = at-clash head in
+    let most = clamp-most maxNames (at-start found .args .t2 .names) in
+    let count = found .before .before .before .name-count .ensures in
+    (room-rest (header found) (lines found) (parts-room found) (head .put-header .ensures), omega arith)
 
 same-length : tie.Need-same-length
 same-length c = search needs
@@ -136,37 +80,7 @@ same-length c = search needs
 returns : tie.Need-returns
 returns c =
     let head = at-header (c .before .before) in
-    let word = at-word head in
-    rw (clear (at-clear word)) (put-then (word .put-word .ensures) (put-then (head .put-counts .ensures) (c .before .before .put-name-lines .ensures)))
-
-enum-known-clash : tie.Need-enum-known-clash
-enum-known-clash c = search needs
-
-slice-aggregate-put-word-2 : tie.Need-slice-aggregate-put-word-2
-slice-aggregate-put-word-2 c = search needs
-
-put-word-requires-2 : tie.Need-put-word-requires-2
-put-word-requires-2 c κs = search needs
-
-put-counts-requires-2 : tie.Need-put-counts-requires-2
-put-counts-requires-2 c κs =
-    let word = c .before .before .before in
-    room-second (field contradictionWord comma) (header (clash-counts (at-clash word)) comma) (name (at-clash word)) (clash-room (at-clash word)) (word .put-word2 .ensures)
-
-put-name-end-requires : tie.Need-put-name-end-requires
-put-name-end-requires c κs =
-    let head = c .before .before .before .before .before .before .before .before in
-    let word = at-word-2 head in
-    room-third (field contradictionWord comma) (header (clash-counts (at-clash word)) comma) (name (at-clash word)) (clash-room (at-clash word)) (word .put-word2 .ensures) (head .put-counts2 .ensures)
-
-same-length-2 : tie.Need-same-length-2
-same-length-2 c = search needs
-
-returns-2 : tie.Need-returns-2
-returns-2 c =
-    let head = at-header-2 (c .before .before) in
-    let word = at-word-2 head in
-    rw (clash (at-clash word)) (put-then (word .put-word2 .ensures) (put-then (head .put-counts2 .ensures) (c .before .before .put-name-end .ensures)))
+    rw (parts (at-clash head)) (put-then (head .put-header .ensures) (c .before .before .put-name-lines .ensures))
 
 pub put-listing-spec : {M : Type 1} → statement M
 put-listing-spec =
@@ -176,17 +90,7 @@ put-listing-spec =
     rule-count-requires
     count-requires
     lowest-both-requires
-    enum-told
-    slice-aggregate-put-word
-    put-word-requires
-    put-counts-requires
+    put-header-requires
     put-name-lines-requires
     same-length
-    returns
-    enum-known-clash
-    slice-aggregate-put-word-2
-    put-word-requires-2
-    put-counts-requires-2
-    put-name-end-requires
-    same-length-2
-    returns-2)
+    returns)

@@ -4,7 +4,7 @@ use mathlib.Core.List.{_++_, List}
 use Rattle.book.specs.Book.{nameAt}
 use Rattle.scan.specs.Text.{comma}
 use Prim.Native.Nat.{ℕ}
-use Rattle.lister.specs.Listing.{digits, field, verdictsBy}
+use Rattle.lister.specs.Listing.{digits, field, wordsBy}
 use Rattle.lister.specs.Steps.{Room, verdictsEnd}
 use Rattle.lister.proofs.Stored.{put-then, room-first, room-second, room-third}
 use Rattle.lister.proofs.Lines.{name-line-is}
@@ -26,10 +26,10 @@ abbrev name-field : tie.Start → List ℕ
 name-field s = field (nameAt (s .args .text .now) (s .args .lengths .now) (s .args .k)) comma
 
 abbrev verdicts : tie.Start → List ℕ
-verdicts s = verdictsEnd (verdictsBy (s .args .model)) (s .args .k)
+verdicts s = verdictsEnd (wordsBy (s .args .marks)) (s .args .k)
 
 line-room : (s : tie.Start) → Room (number-field s ++ (name-field s ++ verdicts s)) (s .args .at)
-line-room s = let a = s .args in rw (name-line-is (verdictsBy (a .model)) (a .k) (nameAt (a .text .now) (a .lengths .now) (a .k))) at (s .pre .0)
+line-room s = let a = s .args in rw (name-line-is (wordsBy (a .marks)) (a .k) (nameAt (a .text .now) (a .lengths .now) (a .k))) at (s .pre .0)
 
 put-number-requires : tie.Need-put-number-requires
 put-number-requires c κs = let s = c .before .before .before .before in room-first (number-field s) (name-field s ++ verdicts s) (line-room s)
@@ -57,7 +57,7 @@ returns c =
     let word = c .before .before .before .before .before .before in
     let number = at-number (word .before) in
     let a = at-start number .args in
-    rw (name-line-is (verdictsBy (a .model)) (a .k) (nameAt (a .text .now) (a .lengths .now) (a .k)))
+    rw (name-line-is (wordsBy (a .marks)) (a .k) (nameAt (a .text .now) (a .lengths .now) (a .k)))
     (put-then (number .put-number .ensures) (put-then (rw (word .before .name-at .ensures) at (word .put-word .ensures)) (c .before .before .put-verdicts .ensures)))
 
 pub put-name-line-spec : {M : Type 1} → statement M

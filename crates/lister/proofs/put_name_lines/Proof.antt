@@ -3,7 +3,7 @@ use borrow.Author.Needs.{needs}
 use Prim.Native.Nat.{_≤_, _-_}
 use native.Mathlib.Nat.{sub-zero}
 use Rattle.book.specs.Book.{nameAt, namesIn}
-use Rattle.lister.specs.Listing.{nameLines, verdictsBy}
+use Rattle.lister.specs.Listing.{nameLines, wordsBy}
 use Rattle.lister.specs.Steps.{Put}
 use Rattle.lister.proofs.Stored.{Left, left-all, put-length}
 use Rattle.lister.proofs.Lines.{linesLeft, line-room, line-stored, lines-stored}
@@ -12,11 +12,11 @@ use Rattle.lister.proofs.put_name_lines.Statement.{statement}
 use Rattle.lister.proofs.put_name_lines.Tie as tie
 
 abbrev Inv-loop : tie.InvT-loop
-Inv-loop t₀ at text lengths count model p₀ k₀ t p k =
-    (k ≤ count) × Left (nameLines (verdictsBy model) 0 (namesIn text lengths count)) at t₀ (linesLeft (verdictsBy model) (nameAt text lengths) count k) p t
+Inv-loop t₀ at text lengths count marks p₀ k₀ t p k =
+    (k ≤ count) × Left (nameLines (wordsBy marks) 0 (namesIn text lengths count)) at t₀ (linesLeft (wordsBy marks) (nameAt text lengths) count k) p t
 
 abbrev μ-loop : tie.MeasureT-loop
-μ-loop t₀ at text lengths count model p₀ k₀ t p k = count - k
+μ-loop t₀ at text lengths count marks p₀ k₀ t p k = count - k
 
 loop-holds : tie.Need-loop-holds Inv-loop μ-loop
 loop-holds c = (omega arith, rw (sub-zero (c .before .before .before .args .count)) (left-all (c .before .before .before .pre .0)))
@@ -25,7 +25,7 @@ put-name-line-requires : tie.Need-put-name-line-requires Inv-loop μ-loop
 put-name-line-requires c κs =
     let a = c .before .before .before .before .before .before .args in
     let was = c .before .before .loop in
-    (line-room (verdictsBy (a .model)) (nameAt (a .text .now) (a .lengths .now)) (a .count) (was .k) (was .inv .1) (c .before .loop-test .taken), omega arith)
+    (line-room (wordsBy (a .marks)) (nameAt (a .text .now) (a .lengths .now)) (a .count) (was .k) (was .inv .1) (c .before .loop-test .taken), omega arith)
 
 add-k : tie.Need-add-k Inv-loop μ-loop
 add-k c = search needs
@@ -37,13 +37,13 @@ loop-again : tie.Need-loop-again Inv-loop μ-loop
 loop-again c =
     let a = c .before .before .before .before .before .before .before .before .before .args in
     let was = c .before .before .before .before .before .loop in
-    (omega arith, line-stored (verdictsBy (a .model)) (nameAt (a .text .now) (a .lengths .now)) (a .count) (was .k) (was .inv .1) (c .before .before .before .before .loop-test .taken) (c .before .before .put-name-line .ensures))
+    (omega arith, line-stored (wordsBy (a .marks)) (nameAt (a .text .now) (a .lengths .now)) (a .count) (was .k) (was .inv .1) (c .before .before .before .before .loop-test .taken) (c .before .before .put-name-line .ensures))
 
-stored : (c : tie.After-loop Inv-loop μ-loop) → Put (nameLines (verdictsBy (c .before .before .before .before .before .args .model)) 0 (namesIn (c .before .before .before .before .before .args .text .now) (c .before .before .before .before .before .args .lengths .now) (c .before .before .before .before .before .args .count))) (c .before .before .before .before .before .args .at) (c .before .before .before .before .before .args .t .now) (c .before .loop .t) (c .before .loop .p)
+stored : (c : tie.After-loop Inv-loop μ-loop) → Put (nameLines (wordsBy (c .before .before .before .before .before .args .marks)) 0 (namesIn (c .before .before .before .before .before .args .text .now) (c .before .before .before .before .before .args .lengths .now) (c .before .before .before .before .before .args .count))) (c .before .before .before .before .before .args .at) (c .before .before .before .before .before .args .t .now) (c .before .loop .t) (c .before .loop .p)
 stored c =
     let a = c .before .before .before .before .before .args in
     let was = c .before .loop in
-    lines-stored (verdictsBy (a .model)) (nameAt (a .text .now) (a .lengths .now)) (a .count) (was .k) (was .inv .1) (c .loop-test .left)
+    lines-stored (wordsBy (a .marks)) (nameAt (a .text .now) (a .lengths .now)) (a .count) (was .k) (was .inv .1) (c .loop-test .left)
 
 same-length : tie.Need-same-length Inv-loop μ-loop
 same-length c = put-length (stored c)

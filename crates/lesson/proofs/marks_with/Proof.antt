@@ -1,10 +1,10 @@
--- `model_with`: the test of the two sets says which of the two cases it is.
+-- `marks_with`: the test of the two sets says which of the two cases it is.
 use borrow.Author.Needs.{needs}
 use mathlib.Core.Path.{refl, sym, _∙_}
 use mathlib.Core.Bool.{true≢false}
 use mathlib.Core.Logic.{inl, inr}
-use Rattle.lesson.proofs.model_with.Statement.{statement}
-use Rattle.lesson.proofs.model_with.Tie as tie
+use Rattle.lesson.proofs.marks_with.Statement.{statement}
+use Rattle.lesson.proofs.marks_with.Tie as tie
 
 in-force-requires : tie.Need-in-force-requires
 in-force-requires c κs = search needs
@@ -17,8 +17,8 @@ returns c =
     let compared = c .before .before in
     inl (compared .equal .ensures .0 (c .before .if1 .taken) ∙ compared .before .in-force .ensures, refl)
 
-model-of-requires : tie.Need-model-of-requires
-model-of-requires c κs = search needs
+marks-of-requires : tie.Need-marks-of-requires
+marks-of-requires c κs = search needs
 
 returns-2 : tie.Need-returns-2
 returns-2 c =
@@ -26,8 +26,8 @@ returns-2 c =
     let differ = compared .equal .ensures .1 in
     inr (
       λ same. true≢false (sym (differ (same ∙ sym (compared .before .in-force .ensures))) ∙ c .before .if1 .left),
-      c .model-of .ensures,
+      c .marks-of .ensures,
     )
 
-pub model-with-spec : {M : Type 1} → statement M
-model-with-spec = tie.close (tie.spec in-force-requires equal-requires returns model-of-requires returns-2)
+pub marks-with-spec : {M : Type 1} → statement M
+marks-with-spec = tie.close (tie.spec in-force-requires equal-requires returns marks-of-requires returns-2)
