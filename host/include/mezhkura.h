@@ -4,12 +4,17 @@
  * is turned down returns the desk as it was, and changes no byte of a lent buffer. Every bit pattern of a struct
  * has a meaning, so a call has no condition on its arguments but that pointers and counts belong together.
  *
- * A load, and a change of the facts, works out M and N and leaves them in the lesson, with the rounds that it took.
- * Verdict, model and listing read what the last change or load left there, so a screen of verdicts after one fact
- * costs one model.
+ * A load, and a change of the facts, works out M and N and leaves them in the lesson, with the rounds that it took and
+ * the literals whose verdicts are refused by 24. Verdict, model and listing read what the last change or load left
+ * there, so a screen of verdicts after one fact costs one model.
  *
  * number: 0 if the call is accepted; 1 to 9 for a refused file; 20 no book is loaded; 21 no such literal; 22 put
  * in now; 23 not put in; 24 contradictory; 25 buffer too short.
+ *
+ * 24 is given to a verdict, where the literal's name, or a name that it reaches (below), has both literals in M, and
+ * nowhere else. The other verdicts of a contradictory lesson are given. Its listing has the header `contradiction`, with
+ * the lowest-numbered name that has both literals in M, and then a line for each name, with the word `contradictory`
+ * where 24 would be given. The longest listing that calls can lead to has 6,209 bytes.
  *
  * A file of no bytes is a book of no names and no rules: it loads.
  *
@@ -74,11 +79,17 @@ typedef struct {
     mezhkura_book book;
 } mezhkura_shelf;
 
-/* A lesson beside a book: the facts put in, and M, N and the rounds of the book with these facts. What stands in
- * `model` is the engine's own: a caller who writes it gets the verdicts and the rounds of what was written. */
+/* A lesson beside a book: the facts put in, and M, N and the rounds of the book with these facts.
+ *
+ * contradictory: both literals of each name of the book whose verdicts are refused by 24. It is empty where no name has
+ * both literals in M.
+ *
+ * What stands in `model` and in `contradictory` is the engine's own: a caller who writes it gets the verdicts, the rounds
+ * and the refusals of what was written. */
 typedef struct {
     mezhkura_litset facts;
     struct mezhkura_model model;
+    mezhkura_litset contradictory;
 } mezhkura_lesson;
 
 /* A desk: one book on its shelf and one lesson beside it. */

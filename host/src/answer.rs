@@ -1,4 +1,4 @@
-//! What a call answers, in the words and numbers of document 01.
+//! What a call answers, in the words and numbers of documents 01 and 02.
 
 use std::collections::BTreeSet;
 use std::fmt;
@@ -52,7 +52,7 @@ pub struct Model {
     pub truths: BTreeSet<usize>,
     /// N, the literals that aren't false.
     pub nonfalse: BTreeSet<usize>,
-    /// Whether the lesson is contradictory.
+    /// Whether the lesson is contradictory: some name has both literals in M.
     pub contradictory: bool,
     /// How many rounds M takes: the least k with I(k) = I(k + 1).
     pub rounds: usize,
@@ -85,7 +85,7 @@ pub struct ModelByGroups {
     pub truths: BTreeSet<usize>,
     /// N, the literals that aren't false.
     pub nonfalse: BTreeSet<usize>,
-    /// Whether the lesson is contradictory.
+    /// Whether the lesson is contradictory: some name has both literals in M.
     pub contradictory: bool,
 }
 
@@ -106,6 +106,9 @@ pub const MOST_NAMES: usize = 128;
 pub const MOST_RULES: usize = 512;
 /// Body literals of all rules of one book together.
 pub const MOST_BODY_LITERALS: usize = 2_048;
+/// Bytes of the longest listing that calls can lead to: 128 names of 16 bytes, all of them contradictory
+/// (document 02, A.7), and a header whose counts have three digits each.
+pub const MOST_LISTING: usize = 6_209;
 
 /// How much of the tables a marking file fills: the names, rules and body literals of the book that a load
 /// of it would leave.
@@ -265,7 +268,7 @@ pub enum Refused {
     PutInNow,
     /// 23: the literal isn't put in now.
     NotPutIn,
-    /// 24: the lesson is contradictory, so it has no verdicts.
+    /// 24: the literal's name, or a name that it reaches, has both literals in M.
     Contradictory,
     /// 25: the lent buffer is shorter than the listing.
     BufferTooShort,
@@ -320,7 +323,9 @@ impl fmt::Display for Refused {
             Refused::NoSuchLiteral => "the book has no literal with this number",
             Refused::PutInNow => "the literal is put in already",
             Refused::NotPutIn => "the literal isn't put in",
-            Refused::Contradictory => "the lesson is contradictory",
+            Refused::Contradictory => {
+                "the name, or a name it reaches, is shown and shown not to be"
+            }
             Refused::BufferTooShort => "the buffer is shorter than the listing",
         };
         write!(f, "{}: {words}", self.number())

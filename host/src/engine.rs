@@ -27,6 +27,11 @@
 //! // `may_park` follows from `brake_held` and comes after it. Group by group the model is the same.
 //! assert_eq!(desk.working_order()?.groups, [[0], [1]]);
 //! assert_eq!(desk.model_by_groups()?.truths, desk.model()?.truths);
+//!
+//! // `brake_held` is shown and shown not to be. `may_park` depends on it, and neither has a verdict.
+//! desk.put_in(1)?;
+//! assert!(desk.model()?.contradictory);
+//! assert_eq!(desk.verdict(2), Err(Refused::Contradictory));
 //! # Ok::<(), Refused>(())
 //! ```
 
@@ -56,9 +61,9 @@ pub fn size(file: &[u8]) -> Result<BookSize, Refused> {
 
 /// A desk: a marking book, once one is loaded, and a lesson beside it.
 ///
-/// The lesson is the facts put in, with M, N and the rounds of the book and these facts. A load and a change
-/// of the facts work them out; a verdict, the model call and a listing read them. A call that is turned down
-/// leaves the desk, and every byte of a lent buffer, as it was.
+/// The lesson is the facts put in, with M, N and the rounds of the book and these facts, and the literals whose
+/// verdicts are refused by 24. A load and a change of the facts work them out; a verdict, the model call and a
+/// listing read them. A call that is turned down leaves the desk, and every byte of a lent buffer, as it was.
 #[derive(Clone, PartialEq, Eq)]
 pub struct Desk(Box<exports::Desk>);
 
@@ -92,7 +97,8 @@ impl Desk {
         accepted(reply.number, 0)
     }
 
-    /// The verdict of a literal. Refused with 20, 21 or 24.
+    /// The verdict of a literal. Refused with 20 or 21, or with 24 where the literal's name, or a name that it
+    /// reaches, has both literals in M. The other literals of a contradictory lesson have their verdicts.
     pub fn verdict(&self, literal: usize) -> Result<Verdict, Refused> {
         let reply = unsafe { exports::mezhkura_verdict(*self.0, literal) };
         accepted(reply.number, 0)?;
@@ -129,7 +135,8 @@ impl Desk {
     }
 
     /// Writes the listing to the buffer's first bytes and answers its length; the bytes after it stay. A
-    /// name is spelt as on the line that declares it.
+    /// name is spelt as on the line that declares it. The word `contradictory` stands where a verdict is
+    /// refused with 24.
     ///
     /// Refused with 20, or with 25 where the buffer is shorter than the listing.
     pub fn listing(&self, buffer: &mut [u8]) -> Result<usize, Refused> {
@@ -171,6 +178,7 @@ impl fmt::Debug for Desk {
             .field("truths", &members(lesson.model.truths))
             .field("nonfalse", &members(lesson.model.nonfalse))
             .field("rounds", &lesson.model.rounds)
+            .field("contradictory", &members(lesson.contradictory))
             .finish()
     }
 }
@@ -262,7 +270,11 @@ impl Calls for Desk {
             starts,
             entries,
         } = book;
-        let exports::Lesson { facts, model } = lesson;
+        let exports::Lesson {
+            facts,
+            model,
+            contradictory,
+        } = lesson;
         let exports::Model {
             truths,
             nonfalse,
@@ -275,7 +287,7 @@ impl Calls for Desk {
         bytes.extend(lengths);
         let tables = heads.iter().chain(starts).chain(entries);
         bytes.extend(tables.flat_map(|number| number.to_le_bytes()));
-        let words = [facts, truths, nonfalse].map(|set| set.words);
+        let words = [facts, truths, nonfalse, contradictory].map(|set| set.words);
         bytes.extend(words.into_iter().flatten().flat_map(u64::to_le_bytes));
         bytes.extend(rounds.to_le_bytes());
         bytes
@@ -330,7 +342,7 @@ mod tests {
         for rounds in [1, 10, 256, 257, 1 << 32, usize::MAX] {
             desk.0.lesson.model.rounds = rounds;
             assert!(desk.state() != loaded);
-            assert!(format!("{desk:?}").contains(&format!("rounds: {rounds} ")));
+            assert!(format!("{desk:?}").contains(&format!("rounds: {rounds},")));
             assert_eq!(desk.model().map(|model| model.rounds), Ok(rounds));
             assert_eq!(
                 listed(&desk),
@@ -340,11 +352,44 @@ mod tests {
             assert_eq!(desk.model().map(|model| model.rounds), Ok(rounds));
             let mut clash = desk.clone();
             clash.0.lesson.model.truths.words[0] = 3;
-            assert_eq!(listed(&clash), format!("contradiction,1,0,0,{rounds},a\n"));
+            assert_eq!(
+                listed(&clash),
+                format!("contradiction,1,0,0,{rounds},a\n0,a,true,true\n")
+            );
             assert_eq!(desk.put_in(1), Ok(()));
             assert_eq!(desk.model().map(|model| model.rounds), Ok(1));
             assert_eq!(desk.take_out(1), Ok(()));
             assert_eq!(desk.state(), loaded);
         }
+    }
+
+    /// The same of the literals whose verdicts are refused by 24. They are looked at one by one, so a set that
+    /// has one literal of a name refuses that one, and whether the lesson is contradictory is read from M.
+    #[test]
+    fn refusals_are_of_the_set_that_stands() {
+        let mut desk = Desk::fresh();
+        desk.load(b"name,a\nend\n").expect("the book loads");
+        let loaded = desk.state();
+        desk.0.lesson.contradictory.words[0] = 1;
+        assert!(desk.state() != loaded);
+        assert!(format!("{desk:?}").contains("contradictory: {0} "));
+        assert_eq!(desk.verdict(0), Err(Refused::Contradictory));
+        assert_eq!(desk.verdict(1), Ok(Verdict::False));
+        assert_eq!(desk.model().map(|model| model.contradictory), Ok(false));
+        assert_eq!(listed(&desk), "model,1,0,0,0\n0,a,contradictory,false\n");
+        desk.0.lesson.contradictory.words[0] = 2;
+        assert_eq!(desk.verdict(0), Ok(Verdict::False));
+        assert_eq!(desk.verdict(1), Err(Refused::Contradictory));
+        assert_eq!(listed(&desk), "model,1,0,0,0\n0,a,false,contradictory\n");
+        let written = desk.state();
+        assert_eq!(desk.put_in(2), Err(Refused::NoSuchLiteral));
+        assert_eq!(desk.state(), written);
+        assert_eq!(desk.put_in(0), Ok(()));
+        assert_eq!(desk.put_in(1), Ok(()));
+        let words = desk.0.lesson.contradictory.words;
+        assert_eq!(words, [3, 0, 0, 0]);
+        assert_eq!(desk.take_out(0), Ok(()));
+        assert_eq!(desk.take_out(1), Ok(()));
+        assert_eq!(desk.state(), loaded);
     }
 }

@@ -45,13 +45,15 @@ pub struct Shelf {
     pub book: Book,
 }
 
-/// A lesson beside a book: the facts put in, and the model of the book with these facts. A load and a
-/// change of the facts work the model out; it stands until the next one.
+/// A lesson beside a book: the facts put in, the model of the book with these facts, and both literals of
+/// each name of the book whose verdicts are refused by 24. A load and a change of the facts work the model
+/// and that set out; they stand until the next one.
 #[repr(C)]
 #[derive(Clone, Copy, PartialEq, Eq)]
 pub struct Lesson {
     pub facts: LitSet,
     pub model: Model,
+    pub contradictory: LitSet,
 }
 
 /// A desk: one book on its shelf and one lesson beside it.
@@ -157,11 +159,11 @@ const _: () = {
     assert!(size_of::<Book>() == 8344);
     assert!(size_of::<Model>() == 72);
     assert!(size_of::<Shelf>() == 8352);
-    assert!(size_of::<Lesson>() == 104);
-    assert!(size_of::<Desk>() == 8456);
+    assert!(size_of::<Lesson>() == 136);
+    assert!(size_of::<Desk>() == 8488);
     assert!(size_of::<SizeReply>() == 40);
-    assert!(size_of::<LoadReply>() == 8472);
-    assert!(size_of::<ChangeReply>() == 8464);
+    assert!(size_of::<LoadReply>() == 8504);
+    assert!(size_of::<ChangeReply>() == 8496);
     assert!(size_of::<VerdictReply>() == 2);
     assert!(size_of::<SearchReply>() == 2);
     assert!(size_of::<ModelReply>() == 80);

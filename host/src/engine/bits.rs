@@ -1,12 +1,15 @@
 //! Desks of whatever bits. What they mean is read from their fields here, as
 //! `crates/book/specs/Book.antt` says it, and the working order and the model by groups are those of that
-//! meaning.
+//! meaning. Verdicts, the model call and the listing are those of the sets that stand.
 
 use super::{exports, members, Desk};
-use crate::answer::{ModelByGroups, MOST_BODY_LITERALS, MOST_NAMES, MOST_RULES};
+use crate::answer::{Model, ModelByGroups, Refused, Verdict};
+use crate::answer::{MOST_BODY_LITERALS, MOST_LISTING, MOST_NAMES, MOST_RULES};
 use crate::gen::{self, Random};
-use crate::second::{model_by_groups, reach, read, working_order};
-use crate::second::{Entry, Program, Rule};
+use crate::second::{
+    contradictory_name, model_by_groups, reach, read, verdict, word, working_order,
+};
+use crate::second::{Entry, Program, Rule, MOST_LETTERS};
 use std::collections::BTreeSet;
 
 /// The literals that a set has room for.
@@ -170,8 +173,15 @@ fn plain_bits(random: &mut Random) -> exports::Desk {
     book.heads.fill_with(|| random.word() as u16);
     book.starts.fill_with(|| random.word() as u16);
     book.entries.fill_with(|| random.word() as u16);
-    let exports::Lesson { facts, model } = &mut desk.lesson;
-    for set in [facts, &mut model.truths, &mut model.nonfalse] {
+    let exports::Lesson {
+        facts,
+        model,
+        contradictory,
+    } = &mut desk.lesson;
+    let exports::Model {
+        truths, nonfalse, ..
+    } = model;
+    for set in [facts, truths, nonfalse, contradictory] {
         set.words.fill_with(|| random.word());
     }
     model.rounds = random.word() as usize;
@@ -261,4 +271,193 @@ fn the_bits_of_a_loaded_book_mean_its_file() {
         assert_eq!(read(file.as_bytes()).map(|b| b.rules), Ok(rules_of(loaded)));
         check(&desk.0);
     }
+}
+
+/// The literals of the book whose verdicts are refused by 24, by the desk's book and facts: both of a name
+/// that is, or reaches, one with both literals in M. Names past the book's are passed through.
+fn contradictory_due(desk: &exports::Desk) -> BTreeSet<usize> {
+    let program = program_of(desk);
+    let halves = program.halves();
+    // The search for what a name reaches is long, so it is made only where it can matter.
+    if contradictory_name(&halves).is_none() {
+        return BTreeSet::new();
+    }
+    (0..names_of(&desk.shelf.book))
+        .filter(|&name| verdict(&program, &halves, 2 * name).is_err())
+        .flat_map(|name| [2 * name, 2 * name + 1])
+        .collect()
+}
+
+fn has(set: &exports::LitSet, literal: usize) -> bool {
+    set.words[literal / 64] >> (literal % 64) & 1 == 1
+}
+
+/// What the sets that stand say of a literal: each set is read by itself, whatever is in the others.
+fn standing(lesson: &exports::Lesson, literal: usize) -> Result<Verdict, Refused> {
+    if has(&lesson.contradictory, literal) {
+        return Err(Refused::Contradictory);
+    }
+    let truly = has(&lesson.model.truths, literal);
+    let possibly = has(&lesson.model.nonfalse, literal);
+    Ok(match (truly, possibly) {
+        (true, _) => Verdict::True,
+        (false, true) => Verdict::Undefined,
+        (false, false) => Verdict::False,
+    })
+}
+
+fn verdict_due(desk: &exports::Desk, literal: usize) -> Result<Verdict, Refused> {
+    let exports::Shelf { loaded, book } = &desk.shelf;
+    match loaded {
+        0 => Err(Refused::NoBook),
+        _ if literal >= 2 * names_of(book) => Err(Refused::NoSuchLiteral),
+        _ => standing(&desk.lesson, literal),
+    }
+}
+
+/// The lowest-numbered name with both literals among the truths that stand.
+fn clash_of(lesson: &exports::Lesson) -> Option<usize> {
+    let truths = &lesson.model.truths;
+    (0..CAPACITY / 2).find(|n| has(truths, 2 * n) && has(truths, 2 * n + 1))
+}
+
+/// The bytes of a name. One past the book's is empty.
+fn name_of(book: &exports::Book, number: usize) -> &[u8] {
+    if number >= names_of(book) {
+        return &[];
+    }
+    let length = usize::from(book.lengths[number]).min(MOST_LETTERS);
+    &book.text[MOST_LETTERS * number..][..length]
+}
+
+/// The listing by the sets that stand.
+fn listing_due(desk: &exports::Desk) -> Vec<u8> {
+    let exports::Desk { shelf, lesson } = desk;
+    let book = &shelf.book;
+    let names = names_of(book);
+    let (rules, facts) = (book.rules.min(MOST_RULES), members(lesson.facts).len());
+    let counts = format!("{names},{rules},{facts},{}", lesson.model.rounds);
+    let mut text = match clash_of(lesson) {
+        Some(clash) => {
+            let start = format!("contradiction,{counts},");
+            [start.as_bytes(), name_of(book, clash), b"\n"].concat()
+        }
+        None => format!("model,{counts}\n").into_bytes(),
+    };
+    for number in 0..names {
+        text.extend(format!("{number},").into_bytes());
+        text.extend(name_of(book, number));
+        let [plain, negated] = [0, 1].map(|sign| word(standing(lesson, 2 * number + sign)));
+        text.extend(format!(",{plain},{negated}\n").into_bytes());
+    }
+    text
+}
+
+/// Compares what a desk answers to verdicts, the model call and a listing with what is due of its sets.
+fn check_standing(desk: &exports::Desk) {
+    let model = &desk.lesson.model;
+    let ours = Desk(Box::new(*desk));
+    let verdicts: Vec<_> = (0..CAPACITY + 2).map(|l| ours.verdict(l)).collect();
+    let due: Vec<_> = (0..CAPACITY + 2).map(|l| verdict_due(desk, l)).collect();
+    assert_eq!(verdicts, due, "{ours:?}");
+    // The rounds that stand may have as many digits as a number has, which is 20.
+    let mut buffer = [0xA5; MOST_LISTING + 20];
+    if desk.shelf.loaded == 0 {
+        assert_eq!(ours.model(), Err(Refused::NoBook));
+        assert_eq!(ours.listing(&mut buffer), Err(Refused::NoBook));
+        return;
+    }
+    let whole = Model {
+        truths: members(model.truths),
+        nonfalse: members(model.nonfalse),
+        contradictory: clash_of(&desk.lesson).is_some(),
+        rounds: model.rounds,
+    };
+    assert_eq!(ours.model(), Ok(whole), "{ours:?}");
+    let text = listing_due(desk);
+    assert_eq!(ours.listing(&mut buffer), Ok(text.len()), "{ours:?}");
+    let (listed, behind) = buffer.split_at(text.len());
+    assert_eq!(
+        listed.escape_ascii().to_string(),
+        text.escape_ascii().to_string()
+    );
+    assert!(behind.iter().all(|&byte| byte == 0xA5));
+    let short = &mut buffer[..text.len() - 1];
+    assert_eq!(
+        ours.listing(short),
+        Err(Refused::BufferTooShort),
+        "{ours:?}"
+    );
+}
+
+/// Sets that few calls leave: no name with both literals, one literal of a name refused, or none at all.
+fn with_other_sets(random: &mut Random, mut desk: exports::Desk) -> exports::Desk {
+    const PLAIN: u64 = 0x5555_5555_5555_5555;
+    let exports::Lesson {
+        model,
+        contradictory,
+        ..
+    } = &mut desk.lesson;
+    let kept = random.pick(&[u64::MAX, PLAIN, !PLAIN, 0]);
+    model.truths.words.iter_mut().for_each(|word| *word &= kept);
+    let kept = random.pick(&[u64::MAX, PLAIN, !PLAIN, 0]);
+    contradictory
+        .words
+        .iter_mut()
+        .for_each(|word| *word &= kept);
+    model.rounds >>= random.below(64);
+    desk
+}
+
+#[test]
+fn verdicts_and_listings_are_settled_for_all_bits() {
+    let mut random = Random::new(14);
+    let (mut models, mut contradictions) = (0, 0);
+    for _ in 0..600 {
+        let desk = desk_of_bits(&mut random);
+        let desk = with_other_sets(&mut random, desk);
+        check_standing(&desk);
+        let clash = clash_of(&desk.lesson).is_some();
+        models += usize::from(desk.shelf.loaded != 0 && !clash);
+        contradictions += usize::from(desk.shelf.loaded != 0 && clash);
+    }
+    println!("{models} without a clash, {contradictions} with one");
+    assert!(models > 100 && contradictions > 100);
+}
+
+/// How the set of a changed desk refuses the names of its book.
+#[derive(Debug, Default)]
+struct Refusals {
+    none: usize,
+    some: usize,
+    all: usize,
+}
+
+/// A change on such a desk works out which literals are refused by 24, whatever stood there, and one that is
+/// refused leaves what stood.
+#[test]
+fn a_change_of_whatever_bits_leaves_the_contradictory_literals() {
+    let mut random = Random::new(15);
+    let mut kinds = Refusals::default();
+    for _ in 0..600 {
+        let bits = desk_of_bits(&mut random);
+        let mut desk = Desk(Box::new(bits));
+        let names = names_of(&bits.shelf.book);
+        let literal = random.below(2 * names);
+        let change = random.pick(&[Desk::put_in, Desk::take_out]);
+        if change(&mut desk, literal).is_err() {
+            assert!(desk.0.lesson == bits.lesson, "{}", meaning(&bits));
+            continue;
+        }
+        let left = members(desk.0.lesson.contradictory);
+        assert_eq!(left, contradictory_due(&desk.0), "{}", meaning(&desk.0));
+        check_standing(&desk.0);
+        match left.len() {
+            0 => kinds.none += 1,
+            count if count == 2 * names => kinds.all += 1,
+            _ => kinds.some += 1,
+        }
+    }
+    println!("{kinds:?}");
+    assert!(kinds.none > 50 && kinds.some > 50, "{kinds:?}");
 }
