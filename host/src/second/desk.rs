@@ -1,11 +1,12 @@
-//! The calls on one desk (document 01, "When a call is turned down by the state"; document 02, A.5).
+//! The calls on one desk (document 01, "When a call is turned down by the state"; document 02, A.5 and A.7).
 
 use super::book::Book;
 use super::groups::{model_by_groups, reach, working_order};
 use super::listing::listing;
-use super::model::{contradictory_name, members, verdict, Program};
+use super::model::{contradictory_name, members, Program};
 use super::reader::read;
 use super::trees::search;
+use super::verdicts::verdict;
 use crate::answer::{Model, ModelByGroups, Question, Refused, Verdict, WorkingOrder};
 use std::collections::BTreeSet;
 
@@ -58,11 +59,8 @@ impl Desk {
 
     pub fn verdict(&self, literal: usize) -> Result<Verdict, Refused> {
         let book = self.book_with(literal)?;
-        let halves = Program::new(book, &self.facts).halves();
-        if contradictory_name(&halves).is_some() {
-            return Err(Refused::Contradictory);
-        }
-        Ok(verdict(&halves, literal))
+        let program = Program::new(book, &self.facts);
+        verdict(&program, &program.halves(), literal)
     }
 
     /// The answer to a question, or nothing where the walk of its trees takes more than `visits`.

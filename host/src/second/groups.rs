@@ -12,7 +12,8 @@ pub fn reach(names: usize, rules: &[Rule]) -> Vec<Vec<bool>> {
         .collect()
 }
 
-fn reached_from(name: usize, names: usize, rules: &[Rule]) -> Vec<bool> {
+/// Which of so many names one name reaches.
+pub fn reached_from(name: usize, names: usize, rules: &[Rule]) -> Vec<bool> {
     let mut reached = vec![false; names];
     reached[name] = true;
     let mut ahead = vec![name];

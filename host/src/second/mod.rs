@@ -11,6 +11,7 @@ mod listing;
 mod model;
 mod reader;
 mod trees;
+mod verdicts;
 
 pub use answer_sets::{answer_sets, every_set};
 pub use book::{complement, Book, Entry, Rule};
@@ -20,6 +21,7 @@ pub use book::{
 pub use desk::Desk;
 pub use groups::{model_by_groups, reach, working_order};
 pub use listing::{listing, program_output};
-pub use model::{contradictory_name, gamma, verdict, Halves, Program};
+pub use model::{contradictory_name, gamma, value, Halves, Program};
 pub use reader::{read, size};
 pub use trees::{search, Walk};
+pub use verdicts::{verdict, word};

@@ -104,14 +104,21 @@ pub struct Halves {
     pub rounds: usize,
 }
 
+impl Halves {
+    /// Whether a name has both literals in M.
+    pub fn has_both(&self, name: usize) -> bool {
+        self.truths[2 * name] && self.truths[2 * name + 1]
+    }
+}
+
 /// The lowest-numbered name that has both literals in M.
 pub fn contradictory_name(halves: &Halves) -> Option<usize> {
     let names = halves.truths.len() / 2;
-    (0..names).find(|name| halves.truths[2 * name] && halves.truths[2 * name + 1])
+    (0..names).find(|&name| halves.has_both(name))
 }
 
-/// The verdict of a literal where the lesson isn't contradictory.
-pub fn verdict(halves: &Halves, literal: usize) -> Verdict {
+/// What M and N say of a literal, whether or not its verdict is given.
+pub fn value(halves: &Halves, literal: usize) -> Verdict {
     if halves.truths[literal] {
         Verdict::True
     } else if halves.nonfalse[literal] {
