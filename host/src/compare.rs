@@ -3,7 +3,7 @@
 //! whether the model is that of the book and the facts, whatever came before.
 
 use crate::answer::{
-    BookSize, Model, ModelByGroups, Question, Refused, Tree, Verdict, WorkingOrder,
+    BookSize, Model, ModelByGroups, Question, Refused, Tree, Verdict, WorkingOrder, MOST_LISTING,
 };
 use crate::gen::Call;
 use crate::second::{self, Desk, Program};
@@ -281,7 +281,7 @@ fn second_by_groups(second: &Desk) -> Told {
 
 /// Both listings, with every byte of the lent buffers.
 fn both_listings(margin: isize, second: &Desk, other: &dyn Calls) -> (Told, Told) {
-    let due = second.listing(&mut [0; 8192]).unwrap_or(40);
+    let due = second.listing(&mut [0; MOST_LISTING]).unwrap_or(40);
     let length = due.saturating_add_signed(margin);
     let mut ours = vec![UNTOUCHED; length];
     let mut theirs = vec![UNTOUCHED; length];

@@ -234,6 +234,21 @@ pub fn bound_book(names: usize) -> Book {
     }
 }
 
+/// A book and facts to put in, with the longest listing that there is: every name has 16 bytes and both
+/// literals in M, and each count of the header has three digits.
+///
+/// It is [`bound_book`] with its first rule once more, and with the names as facts. The names are in I(1),
+/// and each round from there on adds one of their explicit negations.
+pub fn longest_listing() -> (Book, Vec<usize>) {
+    let mut book = bound_book(MOST_NAMES);
+    book.rules.push(fact(0));
+    for (number, name) in book.names.iter_mut().enumerate() {
+        *name = format!("{:x<16}", format!("n{number}_"));
+    }
+    let facts = (0..MOST_NAMES).map(|number| 2 * number).collect();
+    (book, facts)
+}
+
 /// A book whose model takes a round for each name. It isn't contradictory, and no such book takes more: a
 /// round adds a literal to M, which has at most one literal of each name.
 ///

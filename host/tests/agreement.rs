@@ -8,6 +8,7 @@ use families::{header_of, known_rounds};
 use mezhkura::accord::{accords, Accord};
 use mezhkura::answer::{
     BookSize, Fault, Model, ModelByGroups, Question, Refused, Tree, Verdict, WorkingOrder,
+    MOST_LISTING,
 };
 use mezhkura::compare::{agree, answer_by_model, explain, models_stand, questions};
 use mezhkura::compare::{Asked, Calls, Stood, MOST_VISITS};
@@ -390,7 +391,7 @@ impl Wrong {
 
     /// The listing with a wrong header, of which fields 3 and 4 are FACTS and ROUNDS.
     fn misheaded(&self) -> Result<String, Refused> {
-        let mut buffer = vec![0; 8192];
+        let mut buffer = vec![0; MOST_LISTING];
         let length = self.desk.listing(&mut buffer)?;
         let text = String::from_utf8_lossy(&buffer[..length]);
         let (header, lines) = text.split_once('\n').expect("the header is a line");

@@ -1,7 +1,8 @@
 //! The edges that document 01 names under "Run", every refusal number with its line, and what document 02
 //! adds to them.
 
-use mezhkura::answer::{Question, Refused, Tree, Verdict};
+use mezhkura::answer::{Question, Refused, Tree, Verdict, MOST_LISTING};
+use mezhkura::gen;
 use mezhkura::second::{program_output, read, size, Desk};
 
 fn declared(names: usize) -> String {
@@ -397,7 +398,9 @@ fn the_listing_has_the_spelling_of_the_declaring_line() {
     assert_output(format!("{lines}end\n").as_bytes(), listing);
     // A contradiction names the name in the same spelling.
     let clash = format!("{lines}rule,-bRAKE_hELD\nend\n");
-    assert_output(clash.as_bytes(), "contradiction,3,3,0,1,Brake_Held\n");
+    let listing = "contradiction,3,3,0,1,Brake_Held\n0,Brake_Held,contradictory,contradictory\n\
+        1,MAY_PARK,contradictory,contradictory\n2,chocks_set,false,false\n";
+    assert_output(clash.as_bytes(), listing);
 }
 
 #[test]
@@ -478,9 +481,13 @@ fn numbers_22_and_23_look_at_what_is_put_in_now() {
 
 #[test]
 fn number_24_is_given_to_a_verdict_after_21_and_to_nothing_else() {
-    let mut desk = desk("name,a\nrule,a\nrule,-a\nend\n");
-    assert_eq!(desk.verdict(2), Err(Refused::NoSuchLiteral));
+    let mut desk = desk("name,a\nname,b\nname,c\nrule,a\nrule,-a\nrule,c,~a\nend\n");
+    assert_eq!(desk.verdict(6), Err(Refused::NoSuchLiteral));
     assert_eq!(desk.verdict(1), Err(Refused::Contradictory));
+    // `b` reaches no clash, and `c` does.
+    assert_eq!(desk.verdict(2), Ok(Verdict::False));
+    assert_eq!(desk.verdict(4), Err(Refused::Contradictory));
+    assert_eq!(desk.verdict(5), Err(Refused::Contradictory));
     assert_eq!(desk.search(question(1), 100), Ok(Some(false)));
     assert!(desk.model().is_ok_and(|model| model.contradictory));
     assert!(desk
@@ -488,7 +495,7 @@ fn number_24_is_given_to_a_verdict_after_21_and_to_nothing_else() {
         .is_ok_and(|model| model.contradictory));
     assert!(desk.working_order().is_ok());
     assert_eq!(desk.put_in(0), Ok(()));
-    assert_eq!(desk.listing(&mut [0; 40]), Ok(24));
+    assert_eq!(desk.listing(&mut [0; 200]), Ok(24 + 32 + 16 + 32));
 }
 
 #[test]
@@ -498,6 +505,7 @@ fn number_25_is_given_to_a_buffer_one_byte_short() {
         "end\n",
         "name,a\nend\n",
         "name,a\nrule,a\nrule,-a\nend\n",
+        "name,a\nname,b\nrule,a\nrule,-a\nend\n",
     ] {
         let desk = desk(file);
         let text = program_output(file.as_bytes()).into_bytes();
@@ -511,6 +519,33 @@ fn number_25_is_given_to_a_buffer_one_byte_short() {
         assert_eq!(desk.listing(&mut long), Ok(text.len()));
         assert_eq!(long, [&text[..], &[7, 7]].concat());
     }
+}
+
+/// Document 02, A.7: 47 bytes for the header, and for each name its number, 16 bytes, twice `contradictory`
+/// and what stands between. The counts of the header can't have more digits: no book has more than 128
+/// names, 512 rules, 256 facts and 256 rounds.
+#[test]
+fn the_longest_listing_has_6209_bytes() {
+    let (book, facts) = gen::longest_listing();
+    let mut desk = desk(&book.to_file());
+    for fact in facts {
+        assert_eq!(desk.put_in(fact), Ok(()));
+    }
+    assert_eq!(MOST_LISTING, 6_209);
+    let mut buffer = [7; MOST_LISTING];
+    let mut short = [7; MOST_LISTING - 1];
+    assert_eq!(desk.listing(&mut short), Err(Refused::BufferTooShort));
+    assert_eq!(short, [7; MOST_LISTING - 1]);
+    assert_eq!(desk.listing(&mut buffer), Ok(MOST_LISTING));
+    let text = String::from_utf8(buffer.to_vec()).expect("a listing is ASCII");
+    let mut lines = text.lines();
+    let header = lines.next().expect("a header");
+    assert_eq!(header, "contradiction,128,512,128,129,n0_xxxxxxxxxxxxx");
+    for (number, name) in book.names.iter().enumerate() {
+        let line = format!("{number},{name},contradictory,contradictory");
+        assert_eq!(lines.next(), Some(line.as_str()));
+    }
+    assert_eq!(lines.next(), None);
 }
 
 #[test]

@@ -1,4 +1,4 @@
-//! The short books of document 01, and its readings that lead astray.
+//! The short books of document 01, its readings that lead astray, and short books with a clash.
 
 use mezhkura::answer::{Question, Refused, Tree, Verdict};
 use mezhkura::second::{gamma, program_output, read, Desk, Program};
@@ -78,9 +78,11 @@ fn cases_2_3_7_8_9_have_their_verdicts() {
 #[test]
 fn case_4_is_contradictory_and_still_searched() {
     let file = "name,a\nrule,a\nrule,-a\nend\n";
-    assert_eq!(program_output(file.as_bytes()), "contradiction,1,2,0,1,a\n");
+    let listing = "contradiction,1,2,0,1,a\n0,a,contradictory,contradictory\n";
+    assert_eq!(program_output(file.as_bytes()), listing);
     let desk = desk(file);
     assert_eq!(desk.verdict(0), Err(Refused::Contradictory));
+    assert_eq!(desk.verdict(1), Err(Refused::Contradictory));
     assert!(says(&desk, Tree::T, 0));
     assert!(!says(&desk, Tree::TU, 0));
 }
@@ -108,12 +110,17 @@ fn case_10_and_a_file_of_no_bytes_list_a_book_of_nothing() {
 fn case_11_puts_in_a_fact_and_takes_it_out() {
     let mut desk = desk(CASE_5);
     assert_eq!(desk.put_in(0), Ok(()));
-    assert_eq!(desk.verdict(2), Err(Refused::Contradictory));
-    let mut buffer = [0; 64];
+    // `a` and `b` stand in each other's rules, so a clash at `a` takes the verdicts of `b` as well.
+    for literal in 0..4 {
+        assert_eq!(desk.verdict(literal), Err(Refused::Contradictory));
+    }
+    let mut buffer = [0; 100];
     let length = desk
         .listing(&mut buffer)
         .expect("the buffer is long enough");
-    assert_eq!(&buffer[..length], b"contradiction,2,3,1,2,a\n");
+    let expected = "contradiction,2,3,1,2,a\n0,a,contradictory,contradictory\n\
+        1,b,contradictory,contradictory\n";
+    assert_eq!(String::from_utf8_lossy(&buffer[..length]), expected);
     assert_eq!(desk.take_out(0), Ok(()));
     assert_eq!(verdicts(&desk), [False, True, True, False]);
 }
@@ -197,11 +204,55 @@ fn astray_undefined_is_printed_as_such() {
 #[test]
 fn astray_a_contradiction_without_facts_is_found() {
     let file = b"name,x\nname,a\nrule,a,~x\nrule,-a,~x\nend\n";
-    assert_eq!(program_output(file), "contradiction,2,2,0,1,a\n");
+    let listing = "contradiction,2,2,0,1,a\n0,x,false,false\n1,a,contradictory,contradictory\n";
+    assert_eq!(program_output(file), listing);
 }
 
 #[test]
 fn the_lowest_contradictory_name_is_printed() {
     let file = b"name,c\nname,b\nname,a\nrule,a\nrule,-a\nrule,-b\nrule,b\nend\n";
-    assert_eq!(program_output(file), "contradiction,3,4,0,1,b\n");
+    let listing = "contradiction,3,4,0,1,b\n0,c,false,false\n1,b,contradictory,contradictory\n\
+        2,a,contradictory,contradictory\n";
+    assert_eq!(program_output(file), listing);
+}
+
+/// Document 02, A.7. Each book has a clash at `a`, and a name `b` beside it.
+#[test]
+fn a_clash_takes_the_verdicts_of_the_names_that_reach_it_and_of_no_others() {
+    let cases = [
+        // `b` doesn't reach `a`: it has no rule, a fact, or a circle of its own.
+        ("", "1,b,false,false"),
+        ("rule,-b\n", "1,b,false,true"),
+        ("rule,b,~b\n", "1,b,undefined,false"),
+        // `a` reaches `b`, which is not the same thing. The rule shows nothing, since `b` isn't shown.
+        ("rule,a,b\n", "1,b,false,false"),
+        // `a` stands in a rule for `b` or for `-b`, in whatever form, whether or not the rule applies.
+        ("rule,b,a\n", "1,b,contradictory,contradictory"),
+        ("rule,b,-a\n", "1,b,contradictory,contradictory"),
+        ("rule,b,~a\n", "1,b,contradictory,contradictory"),
+        ("rule,-b,~-a\n", "1,b,contradictory,contradictory"),
+        ("rule,b\nrule,-b,a,b\n", "1,b,contradictory,contradictory"),
+        // Through `c`.
+        ("rule,b,~c\nrule,-c,a\n", "1,b,contradictory,contradictory"),
+    ];
+    for (rules, line) in cases {
+        let file = format!("name,a\nname,b\nname,c\nrule,a\nrule,-a\n{rules}end\n");
+        let text = program_output(file.as_bytes());
+        let lines: Vec<&str> = text.lines().collect();
+        assert!(lines[0].starts_with("contradiction,3,"), "{file}{text}");
+        assert!(lines[0].ends_with(",a"), "{file}{text}");
+        assert_eq!(lines[1], "0,a,contradictory,contradictory", "{file}{text}");
+        assert_eq!(lines[2], line, "{file}{text}");
+        assert_eq!(lines.len(), 4, "{file}{text}");
+    }
+}
+
+/// The header has the lowest-numbered name with both literals in M, which may be a consequence.
+#[test]
+fn the_name_of_the_header_may_follow_from_the_clash() {
+    let file = b"name,far\nname,near\nname,other\nrule,near\nrule,-near\nrule,far,near\n\
+        rule,-far,-near\nrule,other,~far\nend\n";
+    let listing = "contradiction,3,5,0,2,far\n0,far,contradictory,contradictory\n\
+        1,near,contradictory,contradictory\n2,other,contradictory,contradictory\n";
+    assert_eq!(program_output(file), listing);
 }

@@ -7,6 +7,7 @@ mod families;
 
 use families::{header_of, known_rounds};
 use mezhkura::accord::{accords, Accord};
+use mezhkura::answer::MOST_LISTING;
 use mezhkura::compare::{agree, answers_agree, explain, models_stand, questions, Asked, Stood};
 use mezhkura::engine::Desk;
 use mezhkura::gen::{self, Call, Random, FULL, MIDDLE, SMALL};
@@ -193,6 +194,23 @@ fn small_books_in_groups_agree() {
         load_and_group(&book, &facts)
     });
     assert!(compare("books in groups", lists).questions > 15_000);
+}
+
+/// Document 02, A.7: every name is contradictory, the names have 16 bytes, and the counts three digits.
+#[test]
+fn the_longest_listing_agrees() {
+    let (book, facts) = gen::longest_listing();
+    let mut calls = vec![Call::Load(book.to_file().into_bytes())];
+    calls.extend(facts.into_iter().map(Call::PutIn));
+    calls.extend([-1, 0, 1].map(|margin| Call::Listing { margin }));
+    answers_agree(&calls, Desk::fresh).unwrap_or_else(|text| panic!("{text}"));
+    let mut desk = Desk::fresh();
+    desk.load(book.to_file().as_bytes())
+        .expect("the book loads");
+    for fact in gen::longest_listing().1 {
+        desk.put_in(fact).expect("the fact is out");
+    }
+    assert_eq!(desk.listing(&mut [0; MOST_LISTING]), Ok(MOST_LISTING));
 }
 
 /// M lies inside every answer set and that inside N; true is in all of them, false in none.

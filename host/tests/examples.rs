@@ -1,6 +1,7 @@
 //! The example books have the listings that stand beside them, and the books of the guide the listings,
 //! figures, answer sets and working orders below them.
 
+use mezhkura::answer::MOST_LISTING;
 use mezhkura::second::{answer_sets, program_output, read, size, Book, Desk, Program};
 use std::collections::{BTreeMap, BTreeSet};
 use std::fs;
@@ -79,7 +80,7 @@ fn desk_with(book: &[u8], facts: &str) -> Desk {
 /// The listing of a book after facts were put in.
 fn listing_with_facts(book: &str, facts: &str) -> String {
     let desk = desk_with(book.as_bytes(), facts);
-    let mut buffer = vec![0; 8192];
+    let mut buffer = vec![0; MOST_LISTING];
     let length = desk.listing(&mut buffer).expect("the buffer is long");
     String::from_utf8(buffer[..length].to_vec()).expect("a listing is ASCII")
 }

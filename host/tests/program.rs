@@ -3,6 +3,7 @@
 
 mod skip;
 
+use mezhkura::answer::MOST_LISTING;
 use mezhkura::gen::{self, Random, FULL, SMALL};
 use mezhkura::second::{program_output, MOST_NAMES};
 use mezhkura::shrink::shortest_file;
@@ -116,6 +117,15 @@ fn books_of_many_rounds_agree() {
         }
     }
     compare(&program, gen::slow_book().to_file().as_bytes());
+}
+
+/// Document 02, A.7. The program puts in no facts, so this listing has two digits fewer than the longest one.
+#[test]
+fn the_longest_listing_agrees() {
+    let Some(program) = program() else { return };
+    let file = gen::longest_listing().0.to_file();
+    assert_eq!(program_output(file.as_bytes()).len(), MOST_LISTING - 2);
+    compare(&program, file.as_bytes());
 }
 
 /// The edges reach every number, so that the comparison above looks at all of them.

@@ -1,7 +1,7 @@
 //! Measures the engine beside the second implementation: `cargo run --release --features engine --bin
 //! measure`. It prints the tables of docs/MEASUREMENTS.md.
 
-use mezhkura::answer::{Question, Tree, MOST_NAMES};
+use mezhkura::answer::{Question, Tree, MOST_LISTING, MOST_NAMES};
 use mezhkura::engine::{self, Desk};
 use mezhkura::gen::{self, Random};
 use mezhkura::second::{self, Book};
@@ -334,7 +334,7 @@ fn print_readings(label: &str, engine: &Desk, other: &second::Desk) {
         || other.verdict(black_box(0)),
     );
     print_row(label, "verdict", verdict);
-    let (mut buffer, mut second_buffer) = (vec![0; 8192], vec![0; 8192]);
+    let (mut buffer, mut second_buffer) = ([0; MOST_LISTING], [0; MOST_LISTING]);
     let listing = times_of(
         || engine.listing(&mut buffer),
         || other.listing(&mut second_buffer),
@@ -479,7 +479,7 @@ fn call_on(call: &str, stack: usize) {
     };
     let mut desk = Desk::fresh();
     desk.load(&file).expect("the book loads");
-    let mut buffer = vec![0; 8192];
+    let mut buffer = vec![0; MOST_LISTING];
     let work = || match call {
         "load" => desk.load(&file),
         "size" => engine::size(&file).map(drop),

@@ -1,6 +1,6 @@
 //! Books whose rounds are known for every count of names (document 02, A.10).
 
-use mezhkura::answer::Refused;
+use mezhkura::answer::{Refused, MOST_LISTING};
 use mezhkura::gen;
 use mezhkura::second::{Book, MOST_NAMES};
 
@@ -30,7 +30,7 @@ impl Known {
 
 /// The header that a listing call writes.
 pub fn header_of(listing: impl FnOnce(&mut [u8]) -> Result<usize, Refused>) -> String {
-    let mut buffer = [0; 8192];
+    let mut buffer = [0; MOST_LISTING];
     let length = listing(&mut buffer).expect("the buffer is long");
     let text = String::from_utf8_lossy(&buffer[..length]);
     text.lines().next().expect("a header").to_string()
