@@ -25,7 +25,10 @@ fn examples_have_their_listings() {
         }
     }
     assert!(seen.len() >= 4, "{} examples", seen.len());
-    assert!(seen.iter().any(|l| l.starts_with("contradiction,")));
+    // A clash, a name that reaches it, and names that keep their verdicts.
+    assert!(seen
+        .iter()
+        .any(|l| l.starts_with("contradiction,") && l.contains(",true,false\n")));
     assert!(seen.iter().any(|l| l.contains("undefined")));
     assert!(!seen.iter().any(|l| l.starts_with("refused")));
     // The guide says that none of them takes more rounds.
@@ -77,9 +80,18 @@ fn desk_with(book: &[u8], facts: &str) -> Desk {
     desk
 }
 
+/// The lines of an example's listing whose verdicts are refused by 24.
+fn contradictory_lines(path: &str, facts: &str) -> String {
+    let listing = listing_with_facts(&example(path), facts);
+    let lines = listing
+        .lines()
+        .filter(|line| line.ends_with(",contradictory"));
+    lines.map(|line| format!("{line}\n")).collect()
+}
+
 /// The listing of a book after facts were put in.
-fn listing_with_facts(book: &str, facts: &str) -> String {
-    let desk = desk_with(book.as_bytes(), facts);
+fn listing_with_facts(book: &[u8], facts: &str) -> String {
+    let desk = desk_with(book, facts);
     let mut buffer = vec![0; MOST_LISTING];
     let length = desk.listing(&mut buffer).expect("the buffer is long");
     String::from_utf8(buffer[..length].to_vec()).expect("a listing is ASCII")
@@ -153,13 +165,15 @@ impl Said {
         let book = self.book.as_bytes();
         match kind {
             "listing" if facts.is_empty() => ("listing", program_output(book)),
-            "listing" => ("listing", listing_with_facts(&self.book, facts)),
+            "listing" => ("listing", listing_with_facts(book, facts)),
             "answer-sets" => ("answer sets", answer_sets_of(&self.book)),
             "size" => ("size", figures(book)),
             "order" => ("order", order_of(&desk_with(book, facts)).concat()),
             _ => {
                 if let Some(path) = kind.strip_prefix("size of ") {
                     ("size", figures(&example(path)))
+                } else if let Some(path) = kind.strip_prefix("contradictory lines of ") {
+                    ("contradictory lines", contradictory_lines(path, facts))
                 } else if let Some(path) = kind.strip_prefix("end of the order of ") {
                     let order = order_of(&desk_with(&example(path), facts));
                     let lines = block.text.lines().count();
@@ -199,6 +213,15 @@ fn the_guide_is_right_about_the_order_of_the_eleven_axles() {
     assert_eq!(order.len(), 79);
     assert_eq!(place, Some(49));
     assert_eq!(Vec::from_iter(several), ["slow_to_yard, stop_at_once\n"]);
+}
+
+/// The guide says how many names of the eleven axles one clash costs.
+#[test]
+fn the_guide_is_right_about_a_clash_of_the_eleven_axles() {
+    let (path, facts) = ("examples/eleven_axles.book", "-coupled\n");
+    assert_eq!(contradictory_lines(path, facts).lines().count(), 3);
+    let listing = listing_with_facts(&example(path), facts);
+    assert_eq!(listing.lines().count(), 1 + 80);
 }
 
 /// The guide has an example for each number that a short file can meet.
