@@ -43,6 +43,14 @@ pub struct Asked {
     pub questions: usize,
     /// Questions that the second implementation's own walk answered too.
     pub walked: usize,
+    /// Verdicts that were refused by 24.
+    pub refused: usize,
+    /// Verdicts that were given in a contradictory lesson.
+    pub given_beside: usize,
+    /// Contradictory lessons in which all verdicts were refused.
+    pub contradictory: usize,
+    /// Contradictory lessons in which some verdicts were refused and some were given.
+    pub in_part: usize,
 }
 
 impl AddAssign for Asked {
@@ -50,6 +58,10 @@ impl AddAssign for Asked {
         self.books += more.books;
         self.questions += more.questions;
         self.walked += more.walked;
+        self.refused += more.refused;
+        self.given_beside += more.given_beside;
+        self.contradictory += more.contradictory;
+        self.in_part += more.in_part;
     }
 }
 
@@ -292,8 +304,8 @@ fn both_listings(margin: isize, second: &Desk, other: &dyn Calls) -> (Told, Told
     (our_answer, their_answer)
 }
 
-/// What was asked after a list (model, listing, working order, model by groups, and every literal's four
-/// searches against M and N), or a call that is answered differently.
+/// What was asked after a list (model, listing, working order, model by groups, every literal's verdict, and
+/// its four searches against M and N), or a call that is answered differently.
 fn agree_at_the_end(second: &Desk, other: &mut dyn Calls) -> Result<Asked, Call> {
     let mut copy = second.clone();
     for call in [
@@ -311,10 +323,7 @@ fn agree_at_the_end(second: &Desk, other: &mut dyn Calls) -> Result<Asked, Call>
         return Ok(Asked::default());
     };
     let program = Program::new(book, second.facts());
-    let mut asked = Asked {
-        books: 1,
-        ..Asked::default()
-    };
+    let mut asked = verdicts_at_the_end(&program, &model, other)?;
     for question in (0..book.literals()).flat_map(questions) {
         let expected = answer_by_model(question, &model);
         let walk = second::search(&program, question, MOST_VISITS);
@@ -325,6 +334,31 @@ fn agree_at_the_end(second: &Desk, other: &mut dyn Calls) -> Result<Asked, Call>
         asked.walked += usize::from(walk.is_some());
     }
     Ok(asked)
+}
+
+/// Every literal's verdict after a list, or one that is answered differently.
+fn verdicts_at_the_end(program: &Program, model: &Model, other: &dyn Calls) -> Result<Asked, Call> {
+    let halves = program.halves();
+    let (mut refused, mut given) = (0, 0);
+    for literal in 0..program.literals {
+        let due = second::verdict(program, &halves, literal);
+        if other.verdict(literal) != due {
+            return Err(Call::Verdict(literal));
+        }
+        match due {
+            Ok(_) => given += 1,
+            Err(_) => refused += 1,
+        }
+    }
+    let beside = model.contradictory && given > 0;
+    Ok(Asked {
+        books: 1,
+        refused,
+        given_beside: if beside { given } else { 0 },
+        contradictory: usize::from(model.contradictory && !beside),
+        in_part: usize::from(beside),
+        ..Asked::default()
+    })
 }
 
 /// The four questions about a literal.

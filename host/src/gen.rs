@@ -50,7 +50,7 @@ impl Random {
 }
 
 /// Names of a truck school, the one for each number of a book.
-fn name(number: usize) -> String {
+pub(crate) fn name(number: usize) -> String {
     const WORDS: [&str; 8] = [
         "brake", "axle", "light", "load", "mirror", "belt", "speed", "gap",
     ];
@@ -144,6 +144,30 @@ fn book_with_circles(random: &mut Random) -> Book {
     book
 }
 
+/// A book with so many names, most of which reach few others: most bodies are of names that come before in
+/// some order. A clash leaves some names of such a book with their verdicts.
+pub fn book_of_few_reached(random: &mut Random, names: usize) -> Book {
+    let mut order: Vec<usize> = (0..names).collect();
+    shuffle(random, &mut order);
+    let negated = random.pick(NEGATED);
+    let mut rules = Vec::new();
+    for (place, &head) in order.iter().enumerate() {
+        for _ in 0..random.below(3) {
+            let among = match random.chance(1, 8) {
+                true => &order[..],
+                false => &order[..place],
+            };
+            let length = random.between(1, 2).min(among.len());
+            rules.push(rule_among(random, head, among, length, negated));
+        }
+    }
+    shuffle(random, &mut rules);
+    Book {
+        names: (0..names).map(name).collect(),
+        rules,
+    }
+}
+
 /// A book with so many names, and a rule for each length of a body.
 fn book_of(random: &mut Random, names: usize, lengths: &[usize]) -> Book {
     let negated = random.pick(NEGATED);
@@ -170,6 +194,12 @@ fn rule_of(random: &mut Random, names: usize, length: usize, negated: usize) -> 
         })
         .collect();
     Rule { head, body }
+}
+
+/// A rule of a book with so many names, with few body literals.
+pub(crate) fn some_rule(random: &mut Random, names: usize) -> Rule {
+    let length = random.below(3);
+    rule_of(random, names, length, 8)
 }
 
 /// A literal that has `-` in `negated` of 16 cases.
@@ -979,6 +1009,34 @@ pub fn calls_on_circles(random: &mut Random) -> Vec<Call> {
     let mut calls = vec![Call::Load(written(random, &book))];
     let facts = random.below(3);
     calls.extend((0..facts).map(|_| Call::PutIn(random.below(book.literals()))));
+    calls
+}
+
+/// A load of a book with at most so many names, most of which reach few others, and facts put in, most often
+/// both literals of a name among them. Some facts are taken out again. Before and after that some verdicts and
+/// a listing are asked.
+pub fn calls_on_clashes(random: &mut Random, most_names: usize) -> Vec<Call> {
+    let names = random.between(2, most_names);
+    let book = book_of_few_reached(random, names);
+    let mut facts: Vec<usize> = (0..random.below(3))
+        .map(|_| random.below(2 * names))
+        .collect();
+    if random.chance(7, 8) {
+        let clash = random.below(names);
+        facts.extend([2 * clash, 2 * clash + 1]);
+        shuffle(random, &mut facts);
+    }
+    let mut calls = vec![Call::Load(written(random, &book))];
+    for (place, &fact) in facts.iter().enumerate() {
+        calls.push(Call::PutIn(fact));
+        calls.push(Call::Verdict(random.below(2 * names)));
+        if random.chance(1, 8) {
+            calls.push(Call::TakeOut(facts[random.below(place + 1)]));
+        }
+    }
+    calls.push(Call::Listing {
+        margin: random.pick(&[-1, 0, 5]),
+    });
     calls
 }
 

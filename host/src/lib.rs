@@ -6,6 +6,8 @@
 //! - [`shrink`] and [`compare`]: run a list of calls on two desks, and find a short list that
 //!   shows a difference.
 //! - [`accord`]: holds a desk against the answer sets of what a list of calls leaves.
+//! - [`published`]: holds its verdicts against the published definition, and against books with other rules for
+//!   names that aren't reached.
 //! - `engine`: the proved engine behind a safe type (feature `engine`).
 
 pub mod accord;
@@ -16,5 +18,6 @@ pub mod engine;
 #[cfg(feature = "engine")]
 mod exports;
 pub mod gen;
+pub mod published;
 pub mod second;
 pub mod shrink;

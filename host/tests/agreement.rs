@@ -1,6 +1,6 @@
 //! On random small books: the searches agree with M and N, M and N with the published notions and with
-//! the answer sets, the rounds are those of the definition, capitals make no other names, and the
-//! comparison of two desks finds wrong ones.
+//! the answer sets, verdicts with the published definition over the rules for reached names, the rounds are
+//! those of the definition, capitals make no other names, and the comparison of two desks finds wrong ones.
 
 mod families;
 mod wrong;
@@ -10,13 +10,15 @@ use mezhkura::accord::{accords, Accord};
 use mezhkura::answer::{Question, Tree};
 use mezhkura::compare::{agree, answer_by_model, explain, models_stand, questions};
 use mezhkura::compare::{Asked, Stood, MOST_VISITS};
-use mezhkura::gen::{self, Random, Size, FULL, MIDDLE, SMALL};
-use mezhkura::second::{contradictory_name, every_set, gamma, program_output, read, search};
+use mezhkura::gen::{self, Call, Random, Size, FULL, MIDDLE, SMALL};
+use mezhkura::published::{verdicts_are_published, verdicts_are_unaltered, Looked};
+use mezhkura::second::{contradictory_name, every_set, gamma, partial_stable_models};
+use mezhkura::second::{program_output, read, search};
 use mezhkura::second::{Book, Desk, Program, Rule, Walk};
 use mezhkura::second::{MOST_BODY_LITERALS, MOST_NAMES};
 use std::collections::BTreeSet;
 use std::iter::successors;
-use wrong::{How, Wrong};
+use wrong::{Astray, How, Wrong};
 
 /// The seed of the random books; another can be set by hand.
 fn seed() -> u64 {
@@ -132,13 +134,6 @@ fn gamma_by_definition(program: &Program, s: &[bool]) -> Vec<bool> {
         .expect("the set of all literals is closed")
 }
 
-/// 001, definition 2: T = ΓΓs(T), and T has no literal in common with the literals outside Γs(T).
-fn partial_stable(program: &Program, truths: &[bool]) -> bool {
-    let nonfalse = gamma(&program.seminormal(), truths);
-    let coherent = truths.iter().zip(&nonfalse).all(|(t, n)| !t || *n);
-    coherent && gamma(program, &nonfalse) == truths
-}
-
 #[test]
 fn model_is_the_published_one() {
     let size = Size {
@@ -179,7 +174,7 @@ fn check_model(program: &Program, file: &str) {
         "{}",
         file
     );
-    let has_model = every_set(program.literals).any(|s| partial_stable(program, &s));
+    let has_model = !partial_stable_models(program).is_empty();
     assert_eq!(has_model, contradictory_name(&halves).is_none(), "{}", file);
 }
 
@@ -347,8 +342,11 @@ fn random_lists(how: How, lists: usize) -> Result<Asked, String> {
     let fresh = || Wrong::fresh(how);
     let mut random = Random::new(seed() + 2);
     let mut asked = Asked::default();
-    for _ in 0..lists {
-        let calls = gen::calls(&mut random, SMALL);
+    for turn in 0..lists {
+        let calls = match turn % 4 {
+            0 => gen::calls_on_clashes(&mut random, 6),
+            _ => gen::calls(&mut random, SMALL),
+        };
         match agree(&calls, &mut fresh()) {
             Ok(more) => asked += more,
             Err(calls) => return Err(explain(calls, fresh)),
@@ -362,6 +360,8 @@ fn a_desk_that_agrees_is_found_to_agree() {
     let asked = random_lists(How::NotAtAll, 1_000).unwrap_or_else(|text| panic!("{text}"));
     println!("{asked:?}");
     assert!(asked.questions > 10_000 && asked.walked < asked.questions);
+    assert!(asked.refused > 500 && asked.given_beside > 500);
+    assert!(asked.contradictory > 100 && asked.in_part > 100);
 }
 
 #[test]
@@ -375,7 +375,6 @@ fn wrong_desks_are_found_and_explained_in_few_calls() {
         How::ShortBufferOfALongOne,
         How::WritesPastTheListing,
         How::ModelOfTheBookAlone,
-        How::VerdictOfAContradiction,
         How::LoadKeepsFacts,
         How::RefusedPutInTakesOut,
         How::TakenOutStaysInTheModel,
@@ -448,6 +447,94 @@ fn desks_that_are_wrong_about_groups_are_found() {
         let text = assert_found(how, random_lists(how, 2_000));
         assert!(text.contains(call), "{how:?}: {text}");
         assert!(random_models(how, 100).is_ok(), "{how:?}");
+    }
+}
+
+/// Each is shown by the answer that it gets wrong, the verdict or the listing, and nothing else of the desk is
+/// wrong.
+#[test]
+fn desks_that_are_wrong_about_contradictions_are_found() {
+    let verdicts = Astray::ALL.map(|astray| (How::Refuses(astray), "(verdict "));
+    let listings = Astray::ALL.map(|astray| (How::Lists(astray), "(listing, "));
+    let lines = [
+        How::ListsTheWordInOneField,
+        How::ListsTheWordInTheOtherField,
+        How::LeavesOutContradictoryLines,
+        How::LeavesOutTheLastLine,
+        How::ListsTheHeaderAlone,
+        How::HeadsByTheFirstContradictoryLine,
+        How::HeadsByTheHighestClash,
+        How::NamesNoClash,
+    ]
+    .map(|how| (how, "(listing, "));
+    for (how, call) in [&verdicts[..], &listings, &lines].concat() {
+        let text = assert_found(how, random_lists(how, 2_000));
+        assert!(text.contains(call), "{how:?}: {text}");
+        assert!(random_models(how, 100).is_ok(), "{how:?}");
+    }
+}
+
+/// Random lists of calls, and lists with clashes. There are few names, so that every set of literals can be
+/// tried.
+fn lists_with_clashes(seed: u64, lists: usize) -> impl Iterator<Item = Vec<Call>> {
+    let mut random = Random::new(seed);
+    (0..lists).map(move |turn| match turn % 3 {
+        0 => gen::calls(&mut random, SMALL),
+        1 => gen::calls_on_clashes(&mut random, 4),
+        _ => gen::calls_on_clashes(&mut random, 5),
+    })
+}
+
+/// The verdicts after so many lists that are those of the published definition over the rules for reached
+/// names, or a list that shows that one isn't.
+fn random_published(how: How, lists: usize) -> Result<Looked, String> {
+    let mut looked = Looked::default();
+    for calls in lists_with_clashes(seed() + 8, lists) {
+        looked += verdicts_are_published(&calls, || Wrong::fresh(how))?;
+    }
+    println!("{how:?}: {looked:?}");
+    Ok(looked)
+}
+
+/// The same of verdicts that rules for names not reached don't alter.
+fn random_unaltered(how: How, lists: usize) -> Result<Looked, String> {
+    let mut looked = Looked::default();
+    for calls in lists_with_clashes(seed() + 9, lists) {
+        looked += verdicts_are_unaltered(&calls, seed(), || Wrong::fresh(how))?;
+    }
+    println!("{how:?}: {looked:?}");
+    Ok(looked)
+}
+
+fn assert_both_outcomes(looked: Result<Looked, String>) {
+    let looked = looked.unwrap_or_else(|text| panic!("{text}"));
+    assert!(looked.refused > 1_000, "{looked:?}");
+    assert!(looked.given_beside > 1_000, "{looked:?}");
+    assert!(looked.given > 1_000, "{looked:?}");
+}
+
+/// Document 02, A.7: 24 is given exactly where the rules for reached names have no partial stable model, and
+/// every other verdict is the value in the least one.
+#[test]
+fn verdicts_are_those_of_the_published_definition() {
+    assert_both_outcomes(random_published(How::NotAtAll, 1_200));
+    for astray in Astray::ALL {
+        let how = How::Refuses(astray);
+        assert_found(how, random_published(how, 1_200));
+    }
+}
+
+/// Document 02, A.7. A desk that refuses no verdict, or that of a clash alone, isn't found here: what it says of
+/// a name depends on nothing that the name doesn't reach.
+#[test]
+fn rules_for_names_not_reached_alter_no_verdict() {
+    assert_both_outcomes(random_unaltered(How::NotAtAll, 1_200));
+    for astray in [Astray::EveryName, Astray::ReachedByAClash] {
+        let how = How::Refuses(astray);
+        assert_found(how, random_unaltered(how, 1_200));
+    }
+    for astray in [Astray::NoName, Astray::ClashesAlone] {
+        assert!(random_unaltered(How::Refuses(astray), 100).is_ok());
     }
 }
 

@@ -1,6 +1,6 @@
 //! The engine compared with the second implementation (feature `engine`). A list of calls ends with all
-//! questions of the book that it leaves, or the model is looked at after each of its calls, or what it
-//! leaves is held against the answer sets.
+//! verdicts and questions of the book that it leaves, or the model is looked at after each of its calls, or
+//! what it leaves is held against the answer sets, or against the published definition.
 #![cfg(feature = "engine")]
 
 mod families;
@@ -11,6 +11,7 @@ use mezhkura::answer::MOST_LISTING;
 use mezhkura::compare::{agree, answers_agree, explain, models_stand, questions, Asked, Stood};
 use mezhkura::engine::Desk;
 use mezhkura::gen::{self, Call, Random, FULL, MIDDLE, SMALL};
+use mezhkura::published::{verdicts_are_published, verdicts_are_unaltered, Looked};
 use mezhkura::second::{read, Book};
 use std::fs;
 use std::path::Path;
@@ -81,9 +82,98 @@ fn compare_books(label: &str, seed: u64, files: &[Vec<u8>]) {
 fn lists_of_calls_agree() {
     let mut random = Random::new(seed());
     let small = (0..20_000).map(|_| gen::calls(&mut random, SMALL));
-    assert!(compare("small lists", small).questions > 200_000);
+    let small = compare("small lists", small);
+    assert!(small.questions > 200_000);
+    assert!(small.contradictory > 1_000 && small.in_part > 1_000);
     let middle = (0..2_000).map(|_| gen::calls(&mut random, MIDDLE));
     assert!(compare("middle lists", middle).questions > 40_000);
+}
+
+/// Document 02, A.7: lists after which most lessons are contradictory in part.
+#[test]
+fn lists_with_clashes_agree() {
+    let mut random = Random::new(seed() + 11);
+    let lists = (0..6_000).map(|turn| {
+        let most_names = if turn % 4 == 0 { 40 } else { 8 };
+        gen::calls_on_clashes(&mut random, most_names)
+    });
+    let asked = compare("lists with clashes", lists);
+    assert!(asked.contradictory > 300 && asked.in_part > 2_000);
+    assert!(asked.refused > 10_000 && asked.given_beside > 10_000);
+}
+
+/// Full books with a clash that most names reach, and with one that few do.
+#[test]
+fn full_books_with_clashes_agree() {
+    let mut random = Random::new(seed() + 12);
+    let mut in_part = 0;
+    for _ in 0..3 {
+        for book in gen::books_in_groups(&mut random) {
+            let clash = random.below(book.names.len());
+            let facts = [2 * clash, 2 * clash + 1];
+            let mut calls = load_and_change(&book, &facts);
+            let literals = Vec::from_iter(0..book.literals());
+            let asked = literals.into_iter().map(Call::Verdict);
+            let place = 1 + facts.len();
+            calls.splice(place..place, asked);
+            calls.insert(place, Call::Listing { margin: 1 });
+            answers_agree(&calls, Desk::fresh).unwrap_or_else(|text| panic!("{text}"));
+            in_part += usize::from(is_in_part(&book, &facts));
+        }
+    }
+    println!("{in_part} contradictory in part");
+    assert!(in_part > 5);
+}
+
+/// Whether a book with these facts has names that are refused by 24 and names that aren't.
+fn is_in_part(book: &Book, facts: &[usize]) -> bool {
+    let mut desk = Desk::fresh();
+    desk.load(book.to_file().as_bytes())
+        .expect("the book loads");
+    for &fact in facts {
+        desk.put_in(fact).expect("the fact is out");
+    }
+    let refused = |name: usize| desk.verdict(2 * name).is_err();
+    let names = 0..book.names.len();
+    names.clone().any(refused) && !names.clone().all(refused)
+}
+
+/// Random lists of calls, and lists with clashes. There are few names, so that every set of literals can be
+/// tried.
+fn lists_for_the_definition(seed: u64) -> impl Iterator<Item = Vec<Call>> {
+    let mut random = Random::new(seed);
+    (0..3_000).map(move |turn| match turn % 3 {
+        0 => gen::calls(&mut random, SMALL),
+        1 => gen::calls_on_clashes(&mut random, 4),
+        _ => gen::calls_on_clashes(&mut random, 5),
+    })
+}
+
+fn assert_both_outcomes(looked: Looked) {
+    println!("{looked:?}");
+    assert!(looked.refused > 2_000 && looked.given_beside > 2_000 && looked.given > 2_000);
+}
+
+/// Document 02, A.7: 24 is given exactly where the rules for reached names have no partial stable model, and
+/// every other verdict is the value in the least one.
+#[test]
+fn verdicts_are_those_of_the_published_definition() {
+    let mut looked = Looked::default();
+    for calls in lists_for_the_definition(seed() + 13) {
+        let more = verdicts_are_published(&calls, Desk::fresh);
+        looked += more.unwrap_or_else(|text| panic!("{text}"));
+    }
+    assert_both_outcomes(looked);
+}
+
+#[test]
+fn rules_for_names_not_reached_alter_no_verdict() {
+    let mut looked = Looked::default();
+    for calls in lists_for_the_definition(seed() + 14) {
+        let more = verdicts_are_unaltered(&calls, seed(), Desk::fresh);
+        looked += more.unwrap_or_else(|text| panic!("{text}"));
+    }
+    assert_both_outcomes(looked);
 }
 
 /// The calls of a list, and then each literal that it puts in taken out again.

@@ -2,12 +2,11 @@
 
 use super::{first_and_rest, program_of, with_each_line};
 use mezhkura::answer::{
-    BookSize, Fault, Model, ModelByGroups, Question, Refused, Tree, Verdict, WorkingOrder,
-    MOST_LISTING,
+    BookSize, Fault, Model, ModelByGroups, Question, Refused, Verdict, WorkingOrder, MOST_LISTING,
 };
 use mezhkura::compare::{answer_by_model, Calls, MOST_VISITS};
 use mezhkura::gen;
-use mezhkura::second::{model_by_groups, reach, read, size, working_order};
+use mezhkura::second::{model_by_groups, reach, read, size, value, word, working_order};
 use mezhkura::second::{Book, Desk, Program, Rule};
 
 /// A desk that is the second implementation, but for one thing that it does wrong.
@@ -55,18 +54,65 @@ impl Wrong {
         Ok(desk)
     }
 
-    /// The listing with a wrong header, of which fields 3 and 4 are FACTS and ROUNDS.
-    fn misheaded(&self) -> Result<String, Refused> {
+    /// The lines of the right listing, each with its fields.
+    fn lines(&self) -> Result<Vec<Vec<String>>, Refused> {
         let mut buffer = vec![0; MOST_LISTING];
         let length = self.desk.listing(&mut buffer)?;
         let text = String::from_utf8_lossy(&buffer[..length]);
-        let (header, lines) = text.split_once('\n').expect("the header is a line");
-        let mut fields: Vec<String> = header.split(',').map(str::to_string).collect();
+        let fields = |line: &str| line.split(',').map(str::to_string).collect();
+        Ok(text.lines().map(fields).collect())
+    }
+
+    /// The listing with a wrong header or with wrong lines, where the desk lists so.
+    fn mislisted(&self) -> Result<Option<String>, Refused> {
+        let mut lines = self.lines()?;
+        let contradictory = lines[0][0] == "contradiction";
         match self.how {
-            How::ListsRoundsBeforeFacts => fields.swap(3, 4),
-            _ => fields[4] = self.model()?.rounds.to_string(),
+            How::CountsTheConfirmingRound
+            | How::RoundsOfTheBookAlone
+            | How::ListsRoundsBeforeFacts => self.misheaded(&mut lines[0])?,
+            How::Lists(astray) => astray.reword(&self.desk, &mut lines[1..]),
+            _ if contradictory => self.misworded(&mut lines),
+            _ => return Ok(None),
         }
-        Ok(format!("{}\n{lines}", fields.join(",")))
+        let line = |fields: &Vec<String>| fields.join(",") + "\n";
+        Ok(Some(lines.iter().map(line).collect()))
+    }
+
+    /// A header, of which fields 3 and 4 are FACTS and ROUNDS, with wrong ones.
+    fn misheaded(&self, header: &mut [String]) -> Result<(), Refused> {
+        match self.how {
+            How::ListsRoundsBeforeFacts => header.swap(3, 4),
+            _ => header[4] = self.model()?.rounds.to_string(),
+        }
+        Ok(())
+    }
+
+    /// Makes the listing of a contradictory lesson a wrong one.
+    fn misworded(&self, lines: &mut Vec<Vec<String>>) {
+        let is_refused = |line: &Vec<String>| line.last().is_some_and(|f| f == "contradictory");
+        let halves = program_of(&self.desk).halves();
+        match self.how {
+            How::ListsTheWordInOneField | How::ListsTheWordInTheOtherField => {
+                let sign = usize::from(self.how == How::ListsTheWordInOneField);
+                for (name, line) in lines[1..].iter_mut().enumerate() {
+                    line[2 + sign] = value(&halves, 2 * name + sign).word().to_string();
+                }
+            }
+            How::LeavesOutContradictoryLines => lines.retain(|line| !is_refused(line)),
+            How::LeavesOutTheLastLine => lines.truncate(lines.len() - 1),
+            How::ListsTheHeaderAlone => lines.truncate(1),
+            How::HeadsByTheFirstContradictoryLine => {
+                let first = lines.iter().find(|line| is_refused(line));
+                lines[0][5] = first.expect("a clash has a line")[1].clone();
+            }
+            How::HeadsByTheHighestClash => {
+                let highest = (0..lines.len() - 1).rfind(|&name| halves.has_both(name));
+                lines[0][5] = lines[1 + highest.expect("a clash")][1].clone();
+            }
+            How::NamesNoClash => lines[0].truncate(5),
+            _ => {}
+        }
     }
 
     /// The groups of the book in the wrong order, or other groups.
@@ -205,6 +251,88 @@ fn declared_as_last_used(file: &[u8]) -> Vec<u8> {
     lines.iter().flat_map(respelt).collect()
 }
 
+/// Which names of a contradictory lesson a wrong desk refuses by 24.
+#[derive(Clone, Copy, Debug, PartialEq)]
+pub enum Astray {
+    /// None: a verdict is read from M and N whatever clashes.
+    NoName,
+    /// All of them.
+    EveryName,
+    /// Those with both literals in M, and no other that reaches them.
+    ClashesAlone,
+    /// Those that a name with both literals in M reaches.
+    ReachedByAClash,
+    /// Those that reach one by literals without `~`.
+    ByPlainLiterals,
+    /// Those that reach one by rules for names, and not by rules for their explicit negations.
+    ByRulesForTheName,
+    /// Those that reach one in a single step.
+    ByOneStep,
+    /// Those of the book without the facts put in.
+    OfTheBookAlone,
+}
+
+impl Astray {
+    pub const ALL: [Astray; 8] = [
+        Astray::NoName,
+        Astray::EveryName,
+        Astray::ClashesAlone,
+        Astray::ReachedByAClash,
+        Astray::ByPlainLiterals,
+        Astray::ByRulesForTheName,
+        Astray::ByOneStep,
+        Astray::OfTheBookAlone,
+    ];
+
+    /// Whether a name of a desk's book is refused.
+    fn refuses(self, desk: &Desk, name: usize) -> bool {
+        let mut program = program_of(desk);
+        let names = program.literals / 2;
+        if self == Astray::OfTheBookAlone {
+            program
+                .rules
+                .truncate(desk.book().map_or(0, |book| book.rules.len()));
+        }
+        let halves = program.halves();
+        let rules = &mut program.rules;
+        match self {
+            Astray::ByPlainLiterals => rules
+                .iter_mut()
+                .for_each(|rule| rule.body.retain(|entry| !entry.default)),
+            Astray::ByRulesForTheName => rules.retain(|rule| rule.head % 2 == 0),
+            Astray::ByOneStep => rules.retain(|rule| rule.head / 2 == name),
+            _ => {}
+        }
+        let reached = reach(names, rules);
+        (0..names)
+            .filter(|&clash| halves.has_both(clash))
+            .any(|clash| match self {
+                Astray::NoName => false,
+                Astray::EveryName => true,
+                Astray::ClashesAlone => clash == name,
+                Astray::ReachedByAClash => reached[clash][name],
+                _ => reached[name][clash],
+            })
+    }
+
+    /// The verdict of a literal of a desk's book.
+    fn verdict(self, desk: &Desk, literal: usize) -> Result<Verdict, Refused> {
+        if self.refuses(desk, literal / 2) {
+            return Err(Refused::Contradictory);
+        }
+        Ok(value(&program_of(desk).halves(), literal))
+    }
+
+    /// Gives the lines of a desk's names the words of these verdicts.
+    fn reword(self, desk: &Desk, lines: &mut [Vec<String>]) {
+        for (name, line) in lines.iter_mut().enumerate() {
+            for sign in [0, 1] {
+                line[2 + sign] = word(self.verdict(desk, 2 * name + sign)).to_string();
+            }
+        }
+    }
+}
+
 #[derive(Clone, Copy, Debug, PartialEq)]
 pub enum How {
     NotAtAll,
@@ -221,7 +349,16 @@ pub enum How {
     ShortBufferOfALongOne,
     WritesPastTheListing,
     ModelOfTheBookAlone,
-    VerdictOfAContradiction,
+    Refuses(Astray),
+    Lists(Astray),
+    ListsTheWordInOneField,
+    ListsTheWordInTheOtherField,
+    LeavesOutContradictoryLines,
+    LeavesOutTheLastLine,
+    ListsTheHeaderAlone,
+    HeadsByTheFirstContradictoryLine,
+    HeadsByTheHighestClash,
+    NamesNoClash,
     UndefinedIsTrue,
     UndefinedIsFalse,
     UndefinedIsAContradiction,
@@ -291,7 +428,8 @@ impl Calls for Wrong {
     fn verdict(&self, literal: usize) -> Result<Verdict, Refused> {
         let answer = self.desk.verdict(literal);
         match (self.how, answer) {
-            (How::VerdictOfAContradiction, Err(Refused::Contradictory)) => Ok(Verdict::True),
+            (_, Err(Refused::NoBook | Refused::NoSuchLiteral)) => answer,
+            (How::Refuses(astray), _) => astray.verdict(&self.desk, literal),
             (How::UndefinedIsTrue, Ok(Verdict::Undefined)) => Ok(Verdict::True),
             (How::UndefinedIsFalse, Ok(Verdict::Undefined)) => Ok(Verdict::False),
             (How::UndefinedIsAContradiction, Ok(Verdict::Undefined)) => Err(Refused::Contradictory),
@@ -343,16 +481,15 @@ impl Calls for Wrong {
                 buffer[written..].fill(0);
                 Ok(written)
             }
-            How::CountsTheConfirmingRound
-            | How::RoundsOfTheBookAlone
-            | How::ListsRoundsBeforeFacts => {
-                let text = self.misheaded()?;
-                let lent = buffer.get_mut(..text.len());
-                lent.ok_or(Refused::BufferTooShort)?
-                    .copy_from_slice(text.as_bytes());
-                Ok(text.len())
-            }
-            _ => self.desk.listing(buffer),
+            _ => match self.mislisted()? {
+                Some(text) => {
+                    let lent = buffer.get_mut(..text.len());
+                    lent.ok_or(Refused::BufferTooShort)?
+                        .copy_from_slice(text.as_bytes());
+                    Ok(text.len())
+                }
+                None => self.desk.listing(buffer),
+            },
         }
     }
 
