@@ -511,6 +511,30 @@ pub fn one_way_book(random: &mut Random, lower: bool) -> Book {
     }
 }
 
+/// A full book without `-`, in which the name at one end is reached by all names and has no rule, and that at
+/// the other end is reached by no other name: bodies are of names with lower numbers, or with higher ones, and
+/// each has the neighbour. It is contradictory where both literals of a name are put in, and nowhere else.
+pub fn clash_book(random: &mut Random, lower: bool) -> Book {
+    // Name 0 is reached by all, and the other names come behind it; from the last name down it is the same.
+    let number = |place: usize| match lower {
+        true => place,
+        false => MOST_NAMES - 1 - place,
+    };
+    let order: Vec<usize> = (0..MOST_NAMES).map(number).collect();
+    let mut rules = Vec::new();
+    for r in 0..MOST_RULES {
+        let place = 1 + r % (MOST_NAMES - 1);
+        let length = MOST_BODY_LITERALS / MOST_RULES - 1;
+        let mut rule = rule_among(random, order[place], &order[..place], length, 0);
+        rule.body.push(default(2 * order[place - 1]));
+        rules.push(rule);
+    }
+    Book {
+        names: (0..MOST_NAMES).map(name).collect(),
+        rules,
+    }
+}
+
 /// Large books with many small groups, with few large ones and with one, and books in which each name
 /// reaches those with lower numbers, or those with higher ones.
 pub fn books_in_groups(random: &mut Random) -> Vec<Book> {
@@ -1085,8 +1109,12 @@ fn any_literal(random: &mut Random, size: Size) -> usize {
 mod tests {
     use super::*;
     use crate::answer::Refused;
-    use crate::second::{program_output, read};
-    use std::collections::BTreeMap;
+    use crate::second::{listing, program_output, read};
+    use std::collections::{BTreeMap, BTreeSet};
+
+    /// The figures of a book with all names, rules and body literals that a file may have.
+    const FULL_SIZE: &str =
+        "names 128 of 128 (100 %), rules 512 of 512 (100 %), body literals 2048 of 2048 (100 %)";
 
     #[test]
     fn a_generated_book_is_read_as_itself() {
@@ -1168,6 +1196,24 @@ mod tests {
         assert!(met["a rule in other capitals than the declaration"] > 1_000);
         assert!(met["declared again in other capitals"] > 100);
         assert!(met["undeclared with capitals"] > 100);
+    }
+
+    #[test]
+    fn a_clash_is_reached_by_all_names_or_by_none() {
+        for lower in [true, false] {
+            let book = clash_book(&mut Random::new(7), lower);
+            assert_eq!(book.size().to_string(), FULL_SIZE);
+            let (all, none) = match lower {
+                true => (0, MOST_NAMES - 1),
+                false => (MOST_NAMES - 1, 0),
+            };
+            for (clash, refused) in [(all, MOST_NAMES), (none, 1)] {
+                let text = listing(&book, &BTreeSet::from([2 * clash, 2 * clash + 1]));
+                assert!(text.starts_with("contradiction,"), "{text}");
+                assert_eq!(text.matches(",contradictory\n").count(), refused, "{text}");
+            }
+            assert!(listing(&book, &BTreeSet::from([2 * all, 2 * none])).starts_with("model,"));
+        }
     }
 
     #[test]

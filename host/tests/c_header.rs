@@ -66,5 +66,12 @@ fn a_c_program_works_on_a_desk() {
         0 0 2 1 1\n0 0 0 0 0\n9 4 0 0 0\n\
         0 2 2: 0 in 0 1 in 1\n0 0 5 5\n20 0 0:\n20 0 0 0\n\
         0 3 2: 1 in 0 2 in 0 0 in 1\n0 0 0 21\n";
-    assert_eq!(String::from_utf8_lossy(&run.stdout), expected);
+    // The set has both literals of names 0 and 1, which are refused by 24, and name 2 is false. In M are both
+    // literals of name 0, and name 1, so with a set that has literal 4 alone the first two are true. Without
+    // the second fact name 0 is true and name 1 false.
+    let clash = "1 15: 24 0 24 0 0 0\ncontradiction,3,1,2,2,a\n0,a,contradictory,contradictory\n\
+        1,b,contradictory,contradictory\n2,c,false,false\n\
+        1 16: 0 1 0 1 24 0\n0 0: 0 1 0 0 0 0\n";
+    let printed = String::from_utf8_lossy(&run.stdout);
+    assert_eq!(printed, format!("{expected}{clash}"));
 }

@@ -20,6 +20,7 @@ fn main() -> ExitCode {
             print_calls();
             print_rounds();
             print_groups();
+            print_clashes();
             print_sizes();
             print_searches();
             print_stack();
@@ -32,9 +33,12 @@ fn main() -> ExitCode {
         ["file", "slow"] => print_file(&file_of(gen::slow_book())),
         ["file", "lower"] => print_file(&one_way_file(true)),
         ["file", "higher"] => print_file(&one_way_file(false)),
+        ["file", "clash-lower"] => print_file(&clash_file(true)),
+        ["file", "clash-higher"] => print_file(&clash_file(false)),
         _ => {
             eprintln!(
-                "usage: measure, or measure file random|chain|bound|rounds|slow|lower|higher"
+                "usage: measure, or measure file random|chain|bound|rounds|slow|lower|higher|\
+                 clash-lower|clash-higher"
             );
             return ExitCode::FAILURE;
         }
@@ -124,6 +128,56 @@ fn one_way_file(lower: bool) -> Vec<u8> {
     file_of(gen::one_way_book(&mut Random::new(1), lower))
 }
 
+/// A full book in which all names reach one end, and no other name reaches the other end.
+fn clash_file(lower: bool) -> Vec<u8> {
+    file_of(gen::clash_book(&mut Random::new(1), lower))
+}
+
+/// A book with a fact that is put in, whose complement then makes a clash, and another fact that makes none.
+struct Clash {
+    label: String,
+    file: Vec<u8>,
+    fact: usize,
+    other: usize,
+}
+
+fn clashes() -> Vec<Clash> {
+    let small = Clash {
+        label: "small: 2 names, no rules; one name clashes".to_string(),
+        file: b"name,a\nname,b\nend\n".into(),
+        fact: 0,
+        other: 2,
+    };
+    // Names 74 and 48 of the eleven axles are `coupled` and `axle_11_fault`.
+    let middle = Clash {
+        label: "middle: examples/eleven_axles.book; `coupled` clashes".to_string(),
+        file: include_bytes!("../../../examples/eleven_axles.book").into(),
+        fact: 2 * 74,
+        other: 2 * 48,
+    };
+    let full = [true, false].into_iter().flat_map(full_clashes);
+    [small, middle].into_iter().chain(full).collect()
+}
+
+/// A clash that all names reach, and one that no other name reaches.
+fn full_clashes(lower: bool) -> [Clash; 2] {
+    let last = 2 * (MOST_NAMES - 1);
+    let (words, all, none) = match lower {
+        true => ("lower", 0, last),
+        false => ("higher", last, 0),
+    };
+    let rows = [
+        ("all names reach the clash", all, none),
+        ("no other name reaches the clash", none, all),
+    ];
+    rows.map(|(which, fact, other)| Clash {
+        label: format!("full: 128 names, 512 rules, bodies of {words} names; {which}"),
+        file: clash_file(lower),
+        fact,
+        other,
+    })
+}
+
 fn file_of(book: Book) -> Vec<u8> {
     book.to_file().into_bytes()
 }
@@ -170,6 +224,11 @@ fn mean_of<R>(together: Duration, work: &mut impl FnMut() -> R) -> Duration {
         }
         more *= 2;
     }
+}
+
+/// Keeps the compiler from leaving out what an answer takes.
+fn keep<R>(answer: R) {
+    black_box(answer);
 }
 
 /// The times of one run of each side: the least of five means.
@@ -299,6 +358,69 @@ fn times_of_groups(engine: &Desk, other: &second::Desk) -> [f64; 6] {
     times.map(micros)
 }
 
+/// A put-in that makes a clash beside one that makes none, and verdicts and the listing of the contradictory
+/// lesson.
+fn print_clashes() {
+    println!();
+    println!(
+        "| book | refused names | put in without a clash, µs | put in with a clash, µs | with / without \
+         | verdict given, µs | verdict refused, µs | listing, µs | second's verdict refused, µs |"
+    );
+    println!("|---|---|---|---|---|---|---|---|---|");
+    for clash in clashes() {
+        let Clash { label, file, .. } = &clash;
+        let (mut engine, mut other) = (Desk::fresh(), second::Desk::fresh());
+        engine.load(file).expect("the book loads");
+        other.load(file).expect("the book loads");
+        engine.put_in(clash.fact).expect("the fact is out");
+        let [without, with] = times_of_put_ins(&engine, [clash.other, clash.fact + 1]);
+        engine.put_in(clash.fact + 1).expect("the fact is out");
+        for fact in [clash.fact, clash.fact + 1] {
+            other.put_in(fact).expect("the fact is out");
+        }
+        let names = other.book().expect("a book is loaded").names.len();
+        let refused = |name: &usize| engine.verdict(2 * name).is_err();
+        println!(
+            "| {label} | {} | {without:.2} | {with:.2} | {} | {} |",
+            (0..names).filter(refused).count(),
+            ratio(with, without),
+            times_beside(&engine, &other, clash.fact, names).join(" | ")
+        );
+    }
+}
+
+/// Microseconds of two put-ins, the first of which makes no clash and the second does. Each is made on a copy
+/// of the desk, which takes as long for both.
+fn times_of_put_ins(desk: &Desk, facts: [usize; 2]) -> [f64; 2] {
+    let put_in = |fact: usize| {
+        let mut copy = desk.clone();
+        copy.put_in(black_box(fact)).expect("the fact is out");
+        copy
+    };
+    let [without, with] = facts.map(|fact| put_in(fact).model().expect("a book is loaded"));
+    assert!(!without.contradictory && with.contradictory);
+    let mut put_ins = facts.map(|fact| move || keep(put_in(fact)));
+    let [one, other] = &mut put_ins;
+    times_in_turns([one, other]).map(micros)
+}
+
+/// Of a contradictory lesson, the microseconds of a verdict that is given, if there is one, of one that is
+/// refused and of the listing, and of the second implementation's refused verdict.
+fn times_beside(engine: &Desk, other: &second::Desk, clash: usize, names: usize) -> [String; 4] {
+    let given = (0..2 * names).find(|&literal| engine.verdict(literal).is_ok());
+    let mut buffer = [0; MOST_LISTING];
+    let times = times_in_turns([
+        &mut || keep(engine.verdict(black_box(given.unwrap_or(clash)))),
+        &mut || keep(engine.verdict(black_box(clash))),
+        &mut || keep(engine.listing(&mut buffer)),
+        &mut || keep(other.verdict(black_box(clash))),
+    ]);
+    let [given_time, rest @ ..] = times.map(|time| format!("{:.2}", micros(time)));
+    let given_time = given.map_or("none".to_string(), |_| given_time);
+    let [refused, listing, second] = rest;
+    [given_time, refused, listing, second]
+}
+
 /// Sizing beside the load of the same file, in turns. A file without its last line, which is `end`, is
 /// refused by 9 after all lines are read: there neither works out a model or keeps a book.
 fn print_sizes() {
@@ -353,7 +475,7 @@ fn print_changes(label: &str, engine: &mut Desk, other: &mut second::Desk) {
     print_row(label, "put in and take out", change);
     let literals = other.book().expect("the book is loaded").literals();
     let screen: Vec<usize> = (0..SCREEN).map(|place| place % literals).collect();
-    // A lesson that the fact makes contradictory answers 24 to each, which is an answer as well.
+    // In a lesson that the fact makes contradictory some are refused by 24, which is an answer as well.
     let verdicts = times_of(
         || {
             engine.put_in(black_box(FACT)).expect("the fact is out");
@@ -475,15 +597,19 @@ fn question_named(word: &str) -> Question {
 fn call_on(call: &str, stack: usize) {
     let file = match call {
         "deep" => deep_file(),
+        "clash" => clash_file(true),
         _ => full_file(1),
     };
     let mut desk = Desk::fresh();
     desk.load(&file).expect("the book loads");
+    if call == "clash" {
+        desk.put_in(0).expect("the fact is out");
+    }
     let mut buffer = vec![0; MOST_LISTING];
     let work = || match call {
         "load" => desk.load(&file),
         "size" => engine::size(&file).map(drop),
-        "put-in" => desk.put_in(FACT),
+        "put-in" | "clash" => desk.put_in(FACT),
         "model" => desk.model().map(drop),
         "listing" => desk.listing(&mut buffer).map(drop),
         "order" => desk.working_order().map(drop),
@@ -537,6 +663,7 @@ fn print_stack() {
         ("load of the full random book", "load"),
         ("size of the full random book", "size"),
         ("put in on the full random book", "put-in"),
+        ("put in with a clash that all names reach", "clash"),
         ("model of the full random book", "model"),
         ("listing of the full random book", "listing"),
         ("working order of the full random book", "order"),

@@ -1,6 +1,7 @@
 /* A desk in C: loads a book whose rule spells a name in other capitals, puts in a fact, asks for verdict, search and
  * model, and prints the listing; then loads a file of no bytes and prints its listing. Sizes the book, the file of no
- * bytes and one that is refused. Prints the working order and the model by groups of two books and of none. */
+ * bytes and one that is refused. Prints the working order and the model by groups of two books and of none, and a lesson
+ * in which one name clashes. */
 #include "mezhkura.h"
 
 #include <stdio.h>
@@ -49,6 +50,36 @@ static void print_groups(mezhkura_desk desk)
            (int)model.nonfalse.words[0]);
 }
 
+/* The numbers of the verdicts of three names, each with the verdict. */
+static void print_verdicts(mezhkura_desk desk)
+{
+    for (size_t name = 0; name < 3; name++) {
+        mezhkura_verdict_reply reply = mezhkura_verdict(desk, 2 * name);
+        printf(" %d %d", reply.number, reply.verdict);
+    }
+    printf("\n");
+}
+
+/* Both literals of a are put in. b reaches a, and c does not. */
+static void print_clash(void)
+{
+    const char *file = "name,a\nname,b\nname,c\nrule,b,~a\nend\n";
+    mezhkura_desk desk = mezhkura_load(mezhkura_fresh(), (const uint8_t *)file, strlen(file)).desk;
+    desk = mezhkura_put_in(mezhkura_put_in(desk, 0).desk, 1).desk;
+    uint8_t buffer[200];
+    mezhkura_listing_reply listing = mezhkura_listing(desk, buffer, sizeof buffer);
+    printf("%d %d:", mezhkura_model(desk).contradictory, (int)desk.lesson.contradictory.words[0]);
+    print_verdicts(desk);
+    fwrite(buffer, 1, listing.length, stdout);
+    /* A verdict is refused by 24 where its literal is in the set that stands there, whoever wrote it. */
+    desk.lesson.contradictory.words[0] = 16;
+    printf("%d %d:", mezhkura_model(desk).contradictory, (int)desk.lesson.contradictory.words[0]);
+    print_verdicts(desk);
+    desk = mezhkura_take_out(desk, 1).desk;
+    printf("%d %d:", mezhkura_model(desk).contradictory, (int)desk.lesson.contradictory.words[0]);
+    print_verdicts(desk);
+}
+
 int main(void)
 {
     const char *file = "name,Brake_Held\nname,may_park\nrule,may_park,BRAKE_HELD\nend\n";
@@ -95,5 +126,6 @@ int main(void)
     /* b and c are each other's exception, and a waits for them. */
     const char *circle = "name,a\nname,b\nname,c\nrule,a,b\nrule,b,~c\nrule,c,~b\nend\n";
     print_groups(mezhkura_load(written, (const uint8_t *)circle, strlen(circle)).desk);
+    print_clash();
     return 0;
 }
