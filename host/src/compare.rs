@@ -1,6 +1,6 @@
-//! Runs a list of calls on the second implementation and on another desk, asks every question of the
-//! book that the list leaves, and says where the two first differ. Beside that it looks after every call
-//! whether the model is that of the book and the facts, whatever came before.
+//! Runs a list of calls on the second implementation and on another desk, asks every verdict and every
+//! question of the book that the list leaves, and says where the two first differ. Beside that it looks after
+//! every call whether the model is that of the book and the facts, whatever came before.
 
 use crate::answer::{
     BookSize, Model, ModelByGroups, Question, Refused, Tree, Verdict, WorkingOrder, MOST_LISTING,

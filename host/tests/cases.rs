@@ -110,7 +110,7 @@ fn case_10_and_a_file_of_no_bytes_list_a_book_of_nothing() {
 fn case_11_puts_in_a_fact_and_takes_it_out() {
     let mut desk = desk(CASE_5);
     assert_eq!(desk.put_in(0), Ok(()));
-    // `a` and `b` stand in each other's rules, so a clash at `a` takes the verdicts of `b` as well.
+    // `a` and `b` stand in each other's rules, so `b` reaches the clash at `a`.
     for literal in 0..4 {
         assert_eq!(desk.verdict(literal), Err(Refused::Contradictory));
     }
@@ -218,7 +218,7 @@ fn the_lowest_contradictory_name_is_printed() {
 
 /// Document 02, A.7. Each book has a clash at `a`, and a name `b` beside it.
 #[test]
-fn a_clash_takes_the_verdicts_of_the_names_that_reach_it_and_of_no_others() {
+fn the_names_that_reach_a_clash_have_no_verdicts_and_the_others_do() {
     let cases = [
         // `b` doesn't reach `a`: it has no rule, a fact, or a circle of its own.
         ("", "1,b,false,false"),

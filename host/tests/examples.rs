@@ -215,7 +215,7 @@ fn the_guide_is_right_about_the_order_of_the_eleven_axles() {
     assert_eq!(Vec::from_iter(several), ["slow_to_yard, stop_at_once\n"]);
 }
 
-/// The guide says how many names of the eleven axles one clash costs.
+/// The guide says how many names of the eleven axles reach one clash.
 #[test]
 fn the_guide_is_right_about_a_clash_of_the_eleven_axles() {
     let (path, facts) = ("examples/eleven_axles.book", "-coupled\n");
