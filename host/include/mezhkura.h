@@ -79,17 +79,18 @@ typedef struct {
     mezhkura_book book;
 } mezhkura_shelf;
 
-/* A lesson beside a book: the facts put in, and M, N and the rounds of the book with these facts.
- *
- * contradictory: both literals of each name of the book whose verdicts are refused by 24. It is empty where no name has
- * both literals in M.
- *
- * What stands in `model` and in `contradictory` is the engine's own: a caller who writes it gets the verdicts, the rounds
- * and the refusals of what was written. */
+/* What a lesson shows: M, N and the rounds, and both literals of each name of the book whose verdicts are refused by 24.
+ * `contradictory` is empty where no name has both literals in M. */
 typedef struct {
-    mezhkura_litset facts;
     struct mezhkura_model model;
     mezhkura_litset contradictory;
+} mezhkura_marks;
+
+/* A lesson beside a book: the facts put in, and the marks of the book with these facts. What stands in `marks` is the
+ * engine's own: a caller who writes it gets the verdicts, the rounds and the refusals of what was written. */
+typedef struct {
+    mezhkura_litset facts;
+    mezhkura_marks marks;
 } mezhkura_lesson;
 
 /* A desk: one book on its shelf and one lesson beside it. */

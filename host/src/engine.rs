@@ -175,10 +175,10 @@ impl fmt::Debug for Desk {
             .field("names", &shelf.book.names)
             .field("rules", &shelf.book.rules)
             .field("facts", &members(lesson.facts))
-            .field("truths", &members(lesson.model.truths))
-            .field("nonfalse", &members(lesson.model.nonfalse))
-            .field("rounds", &lesson.model.rounds)
-            .field("contradictory", &members(lesson.contradictory))
+            .field("truths", &members(lesson.marks.model.truths))
+            .field("nonfalse", &members(lesson.marks.model.nonfalse))
+            .field("rounds", &lesson.marks.model.rounds)
+            .field("contradictory", &members(lesson.marks.contradictory))
             .finish()
     }
 }
@@ -270,11 +270,11 @@ impl Calls for Desk {
             starts,
             entries,
         } = book;
-        let exports::Lesson {
-            facts,
+        let exports::Lesson { facts, marks } = lesson;
+        let exports::Marks {
             model,
             contradictory,
-        } = lesson;
+        } = marks;
         let exports::Model {
             truths,
             nonfalse,
@@ -315,10 +315,10 @@ mod tests {
         desk.load(b"name,a\nend\n").expect("the book loads");
         let loaded = desk.state();
         assert_eq!(desk.verdict(0), Ok(Verdict::False));
-        desk.0.lesson.model.nonfalse.words[0] = 1;
+        desk.0.lesson.marks.model.nonfalse.words[0] = 1;
         assert_eq!(desk.verdict(0), Ok(Verdict::Undefined));
         let undefined = desk.state();
-        desk.0.lesson.model.truths.words[0] = 1;
+        desk.0.lesson.marks.model.truths.words[0] = 1;
         assert_eq!(desk.verdict(0), Ok(Verdict::True));
         let written = desk.state();
         assert!(loaded != undefined && undefined != written);
@@ -340,7 +340,7 @@ mod tests {
         desk.load(b"name,a\nend\n").expect("the book loads");
         let loaded = desk.state();
         for rounds in [1, 10, 256, 257, 1 << 32, usize::MAX] {
-            desk.0.lesson.model.rounds = rounds;
+            desk.0.lesson.marks.model.rounds = rounds;
             assert!(desk.state() != loaded);
             assert!(format!("{desk:?}").contains(&format!("rounds: {rounds},")));
             assert_eq!(desk.model().map(|model| model.rounds), Ok(rounds));
@@ -351,7 +351,7 @@ mod tests {
             assert_eq!(desk.put_in(2), Err(Refused::NoSuchLiteral));
             assert_eq!(desk.model().map(|model| model.rounds), Ok(rounds));
             let mut clash = desk.clone();
-            clash.0.lesson.model.truths.words[0] = 3;
+            clash.0.lesson.marks.model.truths.words[0] = 3;
             assert_eq!(
                 listed(&clash),
                 format!("contradiction,1,0,0,{rounds},a\n0,a,true,true\n")
@@ -370,14 +370,14 @@ mod tests {
         let mut desk = Desk::fresh();
         desk.load(b"name,a\nend\n").expect("the book loads");
         let loaded = desk.state();
-        desk.0.lesson.contradictory.words[0] = 1;
+        desk.0.lesson.marks.contradictory.words[0] = 1;
         assert!(desk.state() != loaded);
         assert!(format!("{desk:?}").contains("contradictory: {0} "));
         assert_eq!(desk.verdict(0), Err(Refused::Contradictory));
         assert_eq!(desk.verdict(1), Ok(Verdict::False));
         assert_eq!(desk.model().map(|model| model.contradictory), Ok(false));
         assert_eq!(listed(&desk), "model,1,0,0,0\n0,a,contradictory,false\n");
-        desk.0.lesson.contradictory.words[0] = 2;
+        desk.0.lesson.marks.contradictory.words[0] = 2;
         assert_eq!(desk.verdict(0), Ok(Verdict::False));
         assert_eq!(desk.verdict(1), Err(Refused::Contradictory));
         assert_eq!(listed(&desk), "model,1,0,0,0\n0,a,false,contradictory\n");
@@ -386,7 +386,7 @@ mod tests {
         assert_eq!(desk.state(), written);
         assert_eq!(desk.put_in(0), Ok(()));
         assert_eq!(desk.put_in(1), Ok(()));
-        let words = desk.0.lesson.contradictory.words;
+        let words = desk.0.lesson.marks.contradictory.words;
         assert_eq!(words, [3, 0, 0, 0]);
         assert_eq!(desk.take_out(0), Ok(()));
         assert_eq!(desk.take_out(1), Ok(()));

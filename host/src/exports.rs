@@ -45,15 +45,22 @@ pub struct Shelf {
     pub book: Book,
 }
 
-/// A lesson beside a book: the facts put in, the model of the book with these facts, and both literals of
-/// each name of the book whose verdicts are refused by 24. A load and a change of the facts work the model
-/// and that set out; they stand until the next one.
+/// What a lesson shows: the model, and both literals of each name of the book whose verdicts are refused by
+/// 24.
+#[repr(C)]
+#[derive(Clone, Copy, PartialEq, Eq)]
+pub struct Marks {
+    pub model: Model,
+    pub contradictory: LitSet,
+}
+
+/// A lesson beside a book: the facts put in, and the marks of the book with these facts. A load and a change
+/// of the facts work the marks out; they stand until the next one.
 #[repr(C)]
 #[derive(Clone, Copy, PartialEq, Eq)]
 pub struct Lesson {
     pub facts: LitSet,
-    pub model: Model,
-    pub contradictory: LitSet,
+    pub marks: Marks,
 }
 
 /// A desk: one book on its shelf and one lesson beside it.
@@ -159,6 +166,7 @@ const _: () = {
     assert!(size_of::<Book>() == 8344);
     assert!(size_of::<Model>() == 72);
     assert!(size_of::<Shelf>() == 8352);
+    assert!(size_of::<Marks>() == 104);
     assert!(size_of::<Lesson>() == 136);
     assert!(size_of::<Desk>() == 8488);
     assert!(size_of::<SizeReply>() == 40);

@@ -173,11 +173,11 @@ fn plain_bits(random: &mut Random) -> exports::Desk {
     book.heads.fill_with(|| random.word() as u16);
     book.starts.fill_with(|| random.word() as u16);
     book.entries.fill_with(|| random.word() as u16);
-    let exports::Lesson {
-        facts,
+    let exports::Lesson { facts, marks } = &mut desk.lesson;
+    let exports::Marks {
         model,
         contradictory,
-    } = &mut desk.lesson;
+    } = marks;
     let exports::Model {
         truths, nonfalse, ..
     } = model;
@@ -294,11 +294,11 @@ fn has(set: &exports::LitSet, literal: usize) -> bool {
 
 /// What the sets that stand say of a literal: each set is read by itself, whatever is in the others.
 fn standing(lesson: &exports::Lesson, literal: usize) -> Result<Verdict, Refused> {
-    if has(&lesson.contradictory, literal) {
+    if has(&lesson.marks.contradictory, literal) {
         return Err(Refused::Contradictory);
     }
-    let truly = has(&lesson.model.truths, literal);
-    let possibly = has(&lesson.model.nonfalse, literal);
+    let truly = has(&lesson.marks.model.truths, literal);
+    let possibly = has(&lesson.marks.model.nonfalse, literal);
     Ok(match (truly, possibly) {
         (true, _) => Verdict::True,
         (false, true) => Verdict::Undefined,
@@ -317,7 +317,7 @@ fn verdict_due(desk: &exports::Desk, literal: usize) -> Result<Verdict, Refused>
 
 /// The lowest-numbered name with both literals among the truths that stand.
 fn clash_of(lesson: &exports::Lesson) -> Option<usize> {
-    let truths = &lesson.model.truths;
+    let truths = &lesson.marks.model.truths;
     (0..CAPACITY / 2).find(|n| has(truths, 2 * n) && has(truths, 2 * n + 1))
 }
 
@@ -336,7 +336,7 @@ fn listing_due(desk: &exports::Desk) -> Vec<u8> {
     let book = &shelf.book;
     let names = names_of(book);
     let (rules, facts) = (book.rules.min(MOST_RULES), members(lesson.facts).len());
-    let counts = format!("{names},{rules},{facts},{}", lesson.model.rounds);
+    let counts = format!("{names},{rules},{facts},{}", lesson.marks.model.rounds);
     let mut text = match clash_of(lesson) {
         Some(clash) => {
             let start = format!("contradiction,{counts},");
@@ -355,7 +355,7 @@ fn listing_due(desk: &exports::Desk) -> Vec<u8> {
 
 /// Compares what a desk answers to verdicts, the model call and a listing with what is due of its sets.
 fn check_standing(desk: &exports::Desk) {
-    let model = &desk.lesson.model;
+    let model = &desk.lesson.marks.model;
     let ours = Desk(Box::new(*desk));
     let verdicts: Vec<_> = (0..CAPACITY + 2).map(|l| ours.verdict(l)).collect();
     let due: Vec<_> = (0..CAPACITY + 2).map(|l| verdict_due(desk, l)).collect();
@@ -393,11 +393,10 @@ fn check_standing(desk: &exports::Desk) {
 /// Sets that few calls leave: no name with both literals, one literal of a name refused, or none at all.
 fn with_other_sets(random: &mut Random, mut desk: exports::Desk) -> exports::Desk {
     const PLAIN: u64 = 0x5555_5555_5555_5555;
-    let exports::Lesson {
+    let exports::Marks {
         model,
         contradictory,
-        ..
-    } = &mut desk.lesson;
+    } = &mut desk.lesson.marks;
     let kept = random.pick(&[u64::MAX, PLAIN, !PLAIN, 0]);
     model.truths.words.iter_mut().for_each(|word| *word &= kept);
     let kept = random.pick(&[u64::MAX, PLAIN, !PLAIN, 0]);
@@ -449,7 +448,7 @@ fn a_change_of_whatever_bits_leaves_the_contradictory_literals() {
             assert!(desk.0.lesson == bits.lesson, "{}", meaning(&bits));
             continue;
         }
-        let left = members(desk.0.lesson.contradictory);
+        let left = members(desk.0.lesson.marks.contradictory);
         assert_eq!(left, contradictory_due(&desk.0), "{}", meaning(&desk.0));
         check_standing(&desk.0);
         match left.len() {

@@ -12,6 +12,7 @@ _Static_assert(sizeof(mezhkura_litset) == 32, "set of literals");
 _Static_assert(sizeof(mezhkura_book) == 8344, "book");
 _Static_assert(sizeof(struct mezhkura_model) == 72, "model");
 _Static_assert(sizeof(mezhkura_shelf) == 8352, "shelf");
+_Static_assert(sizeof(mezhkura_marks) == 104, "marks");
 _Static_assert(sizeof(mezhkura_lesson) == 136, "lesson");
 _Static_assert(sizeof(mezhkura_desk) == 8488, "desk");
 _Static_assert(sizeof(mezhkura_size_reply) == 40, "reply to sizing");
@@ -68,15 +69,15 @@ static void print_clash(void)
     desk = mezhkura_put_in(mezhkura_put_in(desk, 0).desk, 1).desk;
     uint8_t buffer[200];
     mezhkura_listing_reply listing = mezhkura_listing(desk, buffer, sizeof buffer);
-    printf("%d %d:", mezhkura_model(desk).contradictory, (int)desk.lesson.contradictory.words[0]);
+    printf("%d %d:", mezhkura_model(desk).contradictory, (int)desk.lesson.marks.contradictory.words[0]);
     print_verdicts(desk);
     fwrite(buffer, 1, listing.length, stdout);
     /* A verdict is refused by 24 where its literal is in the set that stands there, whoever wrote it. */
-    desk.lesson.contradictory.words[0] = 16;
-    printf("%d %d:", mezhkura_model(desk).contradictory, (int)desk.lesson.contradictory.words[0]);
+    desk.lesson.marks.contradictory.words[0] = 16;
+    printf("%d %d:", mezhkura_model(desk).contradictory, (int)desk.lesson.marks.contradictory.words[0]);
     print_verdicts(desk);
     desk = mezhkura_take_out(desk, 1).desk;
-    printf("%d %d:", mezhkura_model(desk).contradictory, (int)desk.lesson.contradictory.words[0]);
+    printf("%d %d:", mezhkura_model(desk).contradictory, (int)desk.lesson.marks.contradictory.words[0]);
     print_verdicts(desk);
 }
 
@@ -99,8 +100,8 @@ int main(void)
     /* Where a caller takes literal 2 out of M, its verdict is undefined, since it is in N still. Rounds that a caller
      * writes are those that the model call gives. */
     mezhkura_desk written = out.desk;
-    written.lesson.model.truths.words[0] = 1;
-    written.lesson.model.rounds = 300;
+    written.lesson.marks.model.truths.words[0] = 1;
+    written.lesson.marks.model.rounds = 300;
     mezhkura_verdict_reply of_written = mezhkura_verdict(written, 2);
     mezhkura_model_reply model_of_written = mezhkura_model(written);
 
