@@ -1,30 +1,29 @@
--- The marks of a program: without a clash in M no name is contradictory, and with one the names are those that reach a name with both literals in M. Facts
--- alter no reach, so the book's rules tell which these are.
-use mathlib.Core.Path.{_≡_, sym, _∙_, ap}
-use mathlib.Core.Bool.{Bool, true, _&&_, true≢false}
+-- The marks of a program: the names that reach one with both literals in M are its contradictory names, and since facts alter no reach the book's rules tell
+-- which these are.
+use mathlib.Core.Path.{_≡_, ap}
+use mathlib.Core.Bool.{Bool, true, _&&_}
 use mathlib.Core.Logic.{_↔_}
-use Prim.Native.Nat.{ℕ, _*_, _≤_, _<_}
+use Prim.Native.Nat.{ℕ, _*_, _≤_}
 use native.Mathlib.Omega.{arith}
 use lib.Dec.{ltb}
 use lib.ListN.{length}
 use borrow.Author.Tests.{ltb-true, lt-ltb}
 use Rattle.truth.proofs.Truth.{and-l, and-r, and-intro}
-use Rattle.wfsx.specs.Sets.{Set, _∈_, ∅, members}
+use Rattle.wfsx.specs.Sets.{Set, _∈_, members}
 use Rattle.wfsx.specs.Program.{Program}
 use Rattle.wfsx.specs.Model.{M, Heads⊆}
 use Rattle.wfsx.specs.Reach.{nameOf}
 use Rattle.wfsx.specs.ContradictoryNames.{ReachesBoth, contradictoryNames}
 use Rattle.wfsx.proofs.Sets.{⊆-antisym}
 use Rattle.wfsx.proofs.ContradictoryNames.{contradictory-is, both-facts}
-use Rattle.litset.specs.Words.{room, capacity, setOf, ClashOf, clashIn}
-use Rattle.litset.specs.declared.Clash.{Clash}
-use Rattle.litset.specs.declared.Clash.the-variants.{None}
+use Rattle.litset.specs.Words.{room, capacity, setOf}
 use Rattle.litset.specs.declared.LitSet.{LitSet}
-use Rattle.litset.proofs.Clashes.{clash-of}
 use Rattle.litset.proofs.Made.{words-for}
-use Rattle.book.specs.Book.{rulesOf, programOf}
+use Rattle.book.specs.Limits.{maxNames}
+use Rattle.book.specs.Book.{clamp, namesOf, rulesOf, programOf}
 use Rattle.book.specs.declared.Book.{Book}
 use Rattle.book.proofs.Heads.{program-of}
+use Rattle.book.proofs.Names.{names-counted}
 use Rattle.fixpoint.specs.Result.{ModelOf}
 use Rattle.fixpoint.specs.declared.Model.{Model}
 use Rattle.fixpoint.proofs.Published.{model-exists}
@@ -35,22 +34,16 @@ use Rattle.lesson.specs.Calls.{MarksOf}
 
 -- ---- the contradictory names
 
--- a set without a clash has both literals of no name
-pub none-reaching : (P : Program) (n : ℕ) (S R : Set) → ((A : ℕ) → A ∈ S → A < capacity) → (found : Clash) → found ≡ clashIn S → found ≡ None → R ≡ ∅ → ReachingBoth P n S R
-none-reaching P n S R small found f e r =
-    let never : ClashOf S None = rw (sym f ∙ e) at (clash-of S small) in
-    record { exactly = λ A. (λ h. absurd (true≢false (sym (rw r at h))), λ w. absurd (never (w .1 .0) (w .1 .2))) }
-
-module _ (b : Book) (F : Set) (n : ℕ) where
+module _ (b : Book) (F : Set) where
   abbrev P : Program
   P = programOf b F
 
   both-in : (S : Set) (k : ℕ) → ReachesBoth (rulesOf b) S k ↔ ReachesBoth P S k
   both-in S k = rw (program-of b F) (both-facts (rulesOf b) (members capacity F) S k)
 
-  pub reaching-are : (R : Set) → ReachingBoth (rulesOf b) n (M P) R → R ≡ contradictoryBelow n P
+  reaching-are : (n : ℕ) (R : Set) → ReachingBoth (rulesOf b) n (M P) R → R ≡ contradictoryBelow n P
   unfolding contradictoryBelow
-  reaching-are R h = ⊆-antisym there back
+  reaching-are n R h = ⊆-antisym there back
     where
       there : (A : ℕ) → A ∈ R → ltb (nameOf A) n && contradictoryNames P (nameOf A) ≡ true
       there A i =
@@ -62,9 +55,13 @@ module _ (b : Book) (F : Set) (n : ℕ) where
           let name = contradictory-is P (nameOf A) .0 (and-r (ltb (nameOf A) n) _ i) in
           h .exactly A .1 (ltb-true (nameOf A) n (and-l (ltb (nameOf A) n) _ i), both-in (M P) (nameOf A) .1 name)
 
-  pub marks-are : (m : Model) (C : LitSet) → ModelOf P m → ReachingBoth (rulesOf b) n (setOf (m .truths .words)) (setOf (C .words))
-      → MarksOf n P (record { model = m; contradictory = C })
-  marks-are m C is h = record { model-is = is; contradictory-are = reaching-are (setOf (C .words)) (rw (is .truths) at h) }
+  pub marks-are : (m : Model) (C : LitSet) → ModelOf P m → ReachingBoth (rulesOf b) (clamp maxNames (b .names)) (setOf (m .truths .words)) (setOf (C .words))
+      → MarksOf (length (namesOf b)) P (record { model = m; contradictory = C })
+  marks-are m C is h =
+      record {
+        model-is = is;
+        contradictory-are = reaching-are (length (namesOf b)) (setOf (C .words)) (rw (names-counted b) (rw (is .truths) at h));
+      }
 
 -- ---- where they stand
 

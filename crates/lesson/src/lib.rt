@@ -4,8 +4,7 @@ ghost use mathlib.Core.Path.{_≡_};
 ghost use Prim.Native.Nat.{_<_};
 ghost use lib.ListN.{length};
 ghost use Rattle.litset.specs.Words.{capacity, setOf, clashIn};
-ghost use Rattle.book.specs.Book.{namesOf, rulesOf, programOf};
-ghost use Rattle.reach.specs.Reaching.{ReachingBoth};
+ghost use Rattle.book.specs.Book.{namesOf, programOf};
 ghost use Rattle.search.specs.Questions.{treeOf, questionOf};
 ghost use Rattle.lesson.specs.State.{acknowledged, gives, inOrder, inForce, itsLiteral, changeFits, changeSays, changedSet, isClash};
 ghost use Rattle.lesson.specs.Calls.{shelfOf, ownOf, meaningOf, numberSays, Begins, MarksOf, MarksAfter, Changes, GivesVerdict, Searches, modelSaid, GivesModel, GivesOrder, GivesGroups, Lists};
@@ -104,27 +103,12 @@ fn in_force(l: Lesson) -> LitSet
     l.facts
 }
 
-// Both literals of each name of the book that reaches a name with both literals in a set, which stands for M. What names reach is worked out only where
-// there is such a name.
-fn contradictory_by(book: Book, truths: LitSet) -> LitSet
-    ensures { λ r. ⌜ ReachingBoth (rulesOf book) (length (namesOf book)) (setOf (truths .words)) (setOf (r .words)) ⌝ }
-{
-    match litset::lowest_both(truths) {
-        Clash::None => {
-            return litset::empty();
-        }
-        Clash::Name(_) => {
-            return reach::reaching_both(book, truths);
-        }
-    }
-}
-
 // The marks of a book with these facts in force.
 fn marks_of(book: Book, facts: LitSet) -> Marks
     ensures { λ r. ⌜ MarksOf (length (namesOf book)) (programOf book (setOf (facts .words))) r ⌝ }
 {
     let model = fixpoint::model_of(book, facts);
-    let contradictory = contradictory_by(book, model.truths);
+    let contradictory = reach::reaching_both(book, model.truths);
     Marks {
         model,
         contradictory,

@@ -17,8 +17,8 @@ use Rattle.wfsx.specs.Reach.{nameOf, reach, literalsOf}
 use Rattle.wfsx.specs.ContradictoryNames.{ReachesBoth}
 use Rattle.wfsx.proofs.Reach.{reach-is}
 use Rattle.litset.specs.declared.Clash.the-variants.{None, Name}
-use Rattle.reach.specs.Table.{rowSet, withName, bothIn, WholeRows}
-use Rattle.reach.specs.Reaching.{ReachingBoth, ShareBoth, WithReaching, RowsHaving}
+use Rattle.reach.specs.Table.{rowSet, withName, bothIn, WholeRows, ShareBoth, WithReaching, RowsHaving}
+use Rattle.reach.specs.Reaching.{ReachingBoth}
 use Rattle.reach.proofs.Names.{common, both-names, LowestOf}
 
 -- ---- one row
@@ -98,3 +98,10 @@ reaching-is P n table S R rows g =
   where
     same : (i : ℕ) → i < n → ShareBoth (rowSet table i) S ↔ ReachesBoth P S i
     same i l = whole-shares P S (rowSet table i) i (rows .whole i l)
+
+-- a set that has both literals of no name is reached by none
+pub reaching-none : (P : Program) (n : ℕ) (S R : Set) → LowestOf (bothIn S) None → R ≡ ∅ → ReachingBoth P n S R
+reaching-none P n S R none e =
+    record {
+      exactly = λ A. (λ h. absurd (clash h (ap (λ (U : Set). U A) e)), λ w. absurd (clash (and-intro _ _ (w .1 .2 .0) (w .1 .2 .1)) (none (w .1 .0))));
+    }

@@ -1,7 +1,7 @@
 -- What the private functions tell each other. A set of names is a set of literals that has both literals of each name, and a table has such a set for each
 -- name, as its words one behind another.
 use mathlib.Core.Path.{_≡_}
-use mathlib.Core.Logic.{_⊎_}
+use mathlib.Core.Logic.{_⊎_, _↔_}
 use mathlib.Core.Bool.{Bool, true, false, not, cond, _&&_, _||_}
 use mathlib.Core.List.{List, map}
 use Prim.Native.Nat.{ℕ, _+_, _*_, _/_, _%_, _^_, _≤_, _<_}
@@ -11,6 +11,7 @@ use lib.Bits.{bitOr}
 use lib.Seq.{sets}
 use Rattle.wfsx.specs.Sets.{Set, _∈_, _∉_, _⊆_, ∅, _∪_, _∖_, members}
 use Rattle.wfsx.specs.Program.{Program}
+use Rattle.wfsx.specs.Model.{Both}
 use Rattle.wfsx.specs.Reach.{nameOf, bodyNames, reach, group, literalsOf}
 use Rattle.wfsx.specs.Groups.{MayCome}
 use Rattle.litset.specs.Words.{nWords, capacity, setOf}
@@ -91,6 +92,18 @@ pub record TurnOf (n i : ℕ) (down : Bool) (k : ℕ) : Type 0 where
 pub record SweptBy (table : List ℕ) (S : Set) (n : ℕ) (down all : Bool) (table′ : List ℕ) (S′ : Set) : Type 0 where
   pub swept : Swept table S table′ S′
   pub each : all ≡ true → down ≡ false → (j : ℕ) → j < n → 2 * j ∈ S′
+
+-- some name has both literals in U and in S
+abbrev pub ShareBoth : Set → Set → Type 0
+ShareBoth U S = (k : ℕ) × Both U k × Both S k
+
+-- R is F, with the literals of `more` where the row shares a name with S
+pub record WithReaching (F more row S R : Set) : Type 0 where
+  pub exactly : (A : ℕ) → (A ∈ R) ↔ ((A ∈ F) ⊎ ((A ∈ more) × ShareBoth row S))
+
+-- R has both literals of each of the first n names whose row shares a name with S
+pub record RowsHaving (table : List ℕ) (n : ℕ) (S R : Set) : Type 0 where
+  pub exactly : (A : ℕ) → (A ∈ R) ↔ ((nameOf A < n) × ShareBoth (rowSet table (nameOf A)) S)
 
 -- some names of U that reach k, and k
 pub record Meeting (table : List ℕ) (k : ℕ) (U met : Set) : Type 0 where

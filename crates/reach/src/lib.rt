@@ -11,8 +11,8 @@ ghost use Rattle.litset.specs.Words.{setOf};
 ghost use Rattle.book.specs.Limits.{maxNames};
 ghost use Rattle.book.specs.Book.{clamp, entryIs, headAt, bodyOf, rulesIn, rulesOf};
 ghost use Rattle.reach.specs.Order.{orderTable};
-ghost use Rattle.reach.specs.Reaching.{ReachingBoth, WithReaching, RowsHaving};
-ghost use Rattle.reach.specs.Table.{nNames, tableSize, rowWords, rowSet, pairedWord, withName, bothIn, Put, Rows, WholeRows, ReachedBy, settledWith, Completed, TurnOf, SweptBy, Met, below, NextBy, Released, PutFits, PutNames};
+ghost use Rattle.reach.specs.Reaching.{ReachingBoth};
+ghost use Rattle.reach.specs.Table.{nNames, tableSize, rowWords, rowSet, pairedWord, withName, bothIn, Put, Rows, WholeRows, ReachedBy, settledWith, Completed, TurnOf, SweptBy, WithReaching, RowsHaving, Met, below, NextBy, Released, PutFits, PutNames};
 use book::Book;
 use book::Entry;
 use litset::Clash;
@@ -51,14 +51,22 @@ pub fn order_below(book: Book, names: usize) -> Order
     r
 }
 
-// Both literals of each name of the book that reaches a name with both literals in a set. A name reaches itself, so such a name is among them.
+// Both literals of each name of the book that reaches a name with both literals in a set. A name reaches itself, so such a name is among them. Where there is
+// none, nothing has to be reached.
 pub fn reaching_both(book: Book, s: LitSet) -> LitSet
     ensures { λ r. ⌜ ReachingBoth (rulesOf book) (clamp maxNames (book .names)) (setOf (s .words)) (setOf (r .words)) ⌝ }
 {
-    let rules = book::rule_count(book);
-    let names = book::name_count(book);
-    let table = reach_table(&book.heads, &book.starts, &book.entries, rules, names);
-    rows_having(&table, names, s)
+    match litset::lowest_both(s) {
+        Clash::None => {
+            return litset::empty();
+        }
+        Clash::Name(_) => {
+            let rules = book::rule_count(book);
+            let names = book::name_count(book);
+            let table = reach_table(&book.heads, &book.starts, &book.entries, rules, names);
+            return rows_having(&table, names, s);
+        }
+    }
 }
 
 fn clamped(names: usize) -> usize

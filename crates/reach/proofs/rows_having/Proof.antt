@@ -4,7 +4,7 @@ use native.Mathlib.Omega.{arith}
 use mathlib.Core.Path.{_≡_, ap}
 use Prim.Native.Nat.{_-_, _≤_}
 use Rattle.litset.specs.Words.{setOf}
-use Rattle.reach.specs.Reaching.{RowsHaving}
+use Rattle.reach.specs.Table.{RowsHaving}
 use Rattle.reach.proofs.Reaching.{having-none, having-more}
 use Rattle.reach.proofs.rows_having.Statement.{statement}
 use Rattle.reach.proofs.rows_having.Tie as tie
