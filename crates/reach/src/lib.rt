@@ -57,15 +57,8 @@ pub fn reaching_both(book: Book, s: LitSet) -> LitSet
     ensures { λ r. ⌜ ReachingBoth (rulesOf book) (clamp maxNames (book .names)) (setOf (s .words)) (setOf (r .words)) ⌝ }
 {
     match litset::lowest_both(s) {
-        Clash::None => {
-            return litset::empty();
-        }
-        Clash::Name(_) => {
-            let rules = book::rule_count(book);
-            let names = book::name_count(book);
-            let table = reach_table(&book.heads, &book.starts, &book.entries, rules, names);
-            return rows_having(&table, names, s);
-        }
+        Clash::None => litset::empty(),
+        Clash::Name(_) => reaching_by_table(book, s),
     }
 }
 
@@ -335,6 +328,16 @@ fn rows_having(table: &[u64], names: usize, s: LitSet) -> LitSet
         k += 1;
     }
     found
+}
+
+// The same, by a table of what each name reaches. It is a function of its own, since lending the book's tables copies the book.
+fn reaching_by_table(book: Book, s: LitSet) -> LitSet
+    ensures { λ r. ⌜ ReachingBoth (rulesOf book) (clamp maxNames (book .names)) (setOf (s .words)) (setOf (r .words)) ⌝ }
+{
+    let rules = book::rule_count(book);
+    let names = book::name_count(book);
+    let table = reach_table(&book.heads, &book.starts, &book.entries, rules, names);
+    rows_having(&table, names, s)
 }
 
 // ---- the next group
