@@ -11,7 +11,7 @@ use Rattle.wfsx.specs.Model as wfsx
 use Rattle.wfsx.specs.Reach.{nameOf, reachedRules}
 use Rattle.wfsx.specs.ContradictoryNames.{ContradictoryName, contradictoryNames}
 use Rattle.wfsx.proofs.Contradiction.{contradiction, least-partial-stable, partial-stable-above, verdict-value}
-use Rattle.wfsx.proofs.ContradictoryNames.{contradictory-is, reached-contradiction, reached-stable, reached-value}
+use Rattle.wfsx.proofs.ContradictoryNames.{contradictory-is, reached-contradiction, reached-stable, reached-value, some-contradictory}
 use Rattle.fixpoint.proofs.Published.{verdict-same}
 use Rattle.lesson.specs.State.{State, inBook, programIn, ContradictoryOver, Said, gives, refused, verdictSays}
 use Rattle.lesson.specs.Calls.{truthsOf, nonfalseOf, contradictoryOf, verdictSaid, GivesVerdict}
@@ -68,7 +68,7 @@ module _ (d : State) (s : Sound d) (A : ℕ) (i : A ∈ inBook (d .book)) where
             read = λ never. absurd (never name);
             without-model = (λ q. none, λ q. refl);
             with-model = λ never. absurd (never none);
-            whole = λ never. absurd (never (contradiction P base over .1 (name .0, name .2)));
+            whole = λ never. absurd (never (some-contradictory P base over .1 (nameOf A, name)));
           }
       go false e =
           let never : ContradictoryName P (nameOf A) → ⊥ = λ name. true≢false (sym (contradictory-is P (nameOf A) .1 name) ∙ e) in

@@ -330,7 +330,7 @@ fn rows_having(table: &[u64], names: usize, s: LitSet) -> LitSet
     found
 }
 
-// The same, by a table of what each name reaches. It is a function of its own, since lending the book's tables copies the book.
+// What `reaching_both` gives, by a table of what each name reaches. It is a function of its own, since the book is copied where its tables are lent.
 fn reaching_by_table(book: Book, s: LitSet) -> LitSet
     ensures { λ r. ⌜ ReachingBoth (rulesOf book) (clamp maxNames (book .names)) (setOf (s .words)) (setOf (r .words)) ⌝ }
 {

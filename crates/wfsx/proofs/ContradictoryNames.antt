@@ -9,7 +9,7 @@ use native.Mathlib.Omega.{arith}
 use Rattle.wfsx.specs.Sets.{Set, _∈_, _∖_, _isIn_}
 use Rattle.wfsx.specs.Program.{compl, Rule, Program, withFacts}
 use Rattle.wfsx.specs.Model.{M, N, PartialStable, Heads⊆, Contradictory, Both, valueIn, verdict}
-use Rattle.wfsx.specs.Reach.{nameOf, Reaches, reach, reachedRules}
+use Rattle.wfsx.specs.Reach.{nameOf, Reaches, itself, reach, reachedRules}
 use Rattle.wfsx.specs.ContradictoryNames.{ReachesBoth, ContradictoryName, someHead, contradictoryNames}
 use Rattle.truth.proofs.Truth.{clash, same-test, and-l, and-r, and-intro, or-elim, or-l, or-r}
 use Rattle.wfsx.proofs.Program.{compl-even}
@@ -99,6 +99,13 @@ pub both-facts : (rules : List Rule) (l : List ℕ) (S : Set) (n : ℕ) → Reac
 both-facts rules l S n = (
   λ w. (w .0, reach-is (withFacts rules l) n (w .0) .0 (rw (reach-facts rules l n) (reach-is rules n (w .0) .1 (w .1))), w .2),
   λ w. (w .0, reach-is rules n (w .0) .0 (rw (reach-facts rules l n) at (reach-is (withFacts rules l) n (w .0) .1 (w .1))), w .2),
+)
+
+-- a program is contradictory exactly where some name is
+pub some-contradictory : (P : Program) (base : Set) → Heads⊆ P base → Contradictory P base ↔ ((n : ℕ) × ContradictoryName P n)
+some-contradictory P base over = (
+  λ none. let w = contradiction P base over .0 none in (w .0, (w .0, itself, w .1)),
+  λ w. contradiction P base over .1 (w .1 .0, w .1 .2),
 )
 
 -- ---- rules for names not reached

@@ -105,6 +105,6 @@ pub data Verdict : Type 0 where
 abbrev pub valueIn : Set → Set → ℕ → Verdict
 valueIn T F A = cond (T A) is-true (cond (F A) is-false is-undefined)
 
--- True if in M, false if not in N, undefined if in N and not in M. It is given where the program is not contradictory.
+-- True if in M, false if not in N, undefined if in N and not in M. `ContradictoryNames.antt` says for which names it is refused.
 unfoldable pub verdict : Program → ℕ → Verdict
 verdict P A = cond (M P A) is-true (cond (N P A) is-undefined is-false)
