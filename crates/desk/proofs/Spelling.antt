@@ -69,7 +69,7 @@ module _ (names : List (List ℕ)) (rules : List Rule) where
 abbrev pub marksIn : State → ℕ → List ℕ
 marksIn d = markWord (verdict (programIn d)) (literalsOf (contradictoryNames (programIn d)))
 
-pub listing-is : (d : State) → listingIn d ≡ listingBy (itsNames (d .book)) (length (itsRules (d .book))) (length (members capacity (inForce (d .own)))) (rounds (programIn d)) (marksIn d) (clashIn (M (programIn d)))
+listing-is : (d : State) → listingIn d ≡ listingBy (itsNames (d .book)) (length (itsRules (d .book))) (length (members capacity (inForce (d .own)))) (rounds (programIn d)) (marksIn d) (clashIn (M (programIn d)))
 unfolding listingIn listingOf programIn
 listing-is d = refl
 
@@ -87,7 +87,7 @@ clash-below cs n e =
 -- ---- its lines and fields
 
 module _ (cs : List Call) (names : List (List ℕ)) (rules : List Rule) (e : left cs .book ≡ loaded-with names rules) where
-  d : State
+  abbrev d : State
   d = left cs
 
   -- the file that the names are read from
@@ -100,20 +100,17 @@ module _ (cs : List Call) (names : List (List ℕ)) (rules : List Rule) (e : lef
   words : (A : ℕ) → Plain (marksIn d A)
   words = mark-plain (verdict (programIn d)) (literalsOf (contradictoryNames (programIn d)))
 
-  facts : ℕ
+  abbrev facts : ℕ
   facts = length (members capacity (inForce (d .own)))
 
   listed : listingIn d ≡ listingBy names (length rules) facts (rounds (programIn d)) (marksIn d) (clashIn (M (programIn d)))
-  unfolding d facts
-  listed = rw e at (listing-is (left cs))
+  listed = rw e at (listing-is d)
 
   pub rounds-listed : fieldAt (listingIn (left cs)) 0 4 ≡ digits (rounds (programIn (left cs)))
-  unfolding d
   rounds-listed = rw listed (rounds-in-header names plain (length rules) facts (rounds (programIn d)) (marksIn d) words (clashIn (M (programIn d))))
 
   -- line i + 1 is that of name i
   pub line-listed : (i : ℕ) → i < length names → fields (getD (linesOf (listingIn (left cs))) (i + 1) []) ≡ digits i ∷ getD names i [] ∷ verdictFields (marksIn (left cs)) i
-  unfolding d
   line-listed i h = rw listed (line-fields names plain (length rules) facts (rounds (programIn d)) (marksIn d) words (clashIn (M (programIn d))) i h)
 
   declared : (k : ℕ) → getD names k [] ≡ declaringField (from .0) k
@@ -121,7 +118,6 @@ module _ (cs : List Call) (names : List (List ℕ)) (rules : List Rule) (e : lef
 
   -- NAME is the field that declares the name, byte for byte
   pub names-spelled : Spelled cs names rules
-  unfolding d
   names-spelled =
       record {
         file = from .0;

@@ -1,5 +1,6 @@
--- Document 01, "Short books to hold against it": cases 1 to 11 as one table of data, and among them a file of no bytes and one with capitals (document
--- 02, A.4 and A.2), and one with a bad name (A.7). Each has the calls, and what the listing, the verdicts and the searches give after them. Bytes stand as numbers, with their text above them, lines parted by ` / `.
+-- Document 01, "Short books to hold against it": cases 1 to 11 as one table of data, and among them a file of no bytes, one with capitals, one with as many
+-- rounds as heads and one with a bad name (document 02, A.4, A.2, A.10 and A.7). Each has the calls, and what the listing, the verdicts and the searches give
+-- after them. Bytes stand as numbers, with their text above them, lines parted by ` / `.
 use mathlib.Core.Bool.{Bool, true, false}
 use mathlib.Core.List.{List, [], _∷_, map}
 use Prim.Native.Nat.{ℕ}

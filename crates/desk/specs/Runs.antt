@@ -155,7 +155,7 @@ pub record VerdictDue (d : State) (A : ℕ) (said : Said wfsx.Verdict) : Type 0 
   -- 24 is given exactly where the name, or a name it reaches, has both literals in M, and every other verdict is read from M and N
   pub refused-24 : (said ≡ refused 24) ↔ ContradictoryName (programIn d) (nameOf A)
   pub read : (ContradictoryName (programIn d) (nameOf A) → ⊥) → said ≡ gives (wfsx.verdict (programIn d) A)
-  -- that is exactly where these rules have no partial stable model; otherwise they have a least one, and the verdict is the value in it
+  -- that is exactly where the rules for the reached names have no partial stable model; otherwise they have a least one, and the verdict is the value in it
   pub without-model : (said ≡ refused 24) ↔ wfsx.Contradictory (reachedRules (programIn d) (nameOf A)) (inBook (d .book))
   pub with-model : (wfsx.Contradictory (reachedRules (programIn d) (nameOf A)) (inBook (d .book)) → ⊥)
       → GivesValue (inBook (d .book)) (reachedRules (programIn d) (nameOf A)) A said
