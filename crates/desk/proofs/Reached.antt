@@ -2,60 +2,45 @@
 -- these are contradictory. And the listing shows for each literal what the verdict call says.
 use mathlib.Core.Path.{_≡_, refl, sym, ap, _∙_}
 use mathlib.Core.Bool.{Bool, true, false, cond}
-use mathlib.Core.Logic.{_⊎_, inl, inr, ⊎-elim}
-use mathlib.Core.List.{List, [], _∷_, map, List·Memᴰ·append-cases, Memᴰ·append-left, Memᴰ·append-right, Memᴰ·map, Memᴰ·of-map}
+use mathlib.Core.Logic.{_⊎_, inl, inr}
+use mathlib.Core.List.{List, [], _∷_}
 use Prim.Native.Nat.{ℕ, _+_, _*_, _/_, _%_}
 use native.Mathlib.Omega.{arith}
-use lib.ListN.{length, getD}
-use borrow.Author.Tests.{ltb-true}
-use Rattle.wfsx.specs.Sets.{_∈_, _isIn_, members}
-use Rattle.wfsx.specs.Program.{Rule, Program, fact}
+use lib.ListN.{getD}
+use Rattle.wfsx.specs.Sets.{_∈_}
+use Rattle.wfsx.specs.Program.{Program}
 use Rattle.wfsx.specs.Model.{verdict}
-use Rattle.wfsx.specs.Reach.{nameOf, nameFor, Reaches, reach, literalsOf}
+use Rattle.wfsx.specs.Reach.{nameOf, nameFor, Reaches, reach}
 use Rattle.wfsx.specs.ContradictoryNames.{contradictoryNames}
-use Rattle.wfsx.proofs.Members.{members-are}
 use Rattle.wfsx.proofs.Program.{of-name}
-use Rattle.wfsx.proofs.Reach.{reach-is, reach-itself, reach-facts}
+use Rattle.wfsx.proofs.Reach.{reach-is, reach-itself}
 use Rattle.wfsx.proofs.Relevance.{Has, verdict-unaltered}
 use Rattle.wfsx.proofs.ContradictoryNames.{contradictory-unaltered}
-use Rattle.litset.specs.Words.{capacity}
-use Rattle.lister.specs.Listing.{contradictoryWord, verdictWord, verdictFields, markWord}
-use Rattle.lesson.specs.State.{BookState, unloaded, loaded-with, State, itsRules, inForce, inBook, programIn, listingIn, gives, refused}
+use Rattle.lister.specs.Listing.{contradictoryWord, verdictWord, wordsOf, verdictFields}
+use Rattle.lesson.specs.State.{BookState, unloaded, loaded-with, State, itsRules, inBook, programIn, listingIn, gives, refused}
 use Rattle.lesson.specs.Calls.{verdictSaid, GivesVerdict}
 use Rattle.lesson.specs.declared.VerdictAnswer.{VerdictAnswer}
+use Rattle.lesson.proofs.Order.{name-inside}
+use Rattle.lesson.proofs.Meaning.{reach-of-program, rule-carried}
 use Rattle.desk.specs.Calls.{Fresh}
 use Rattle.desk.specs.Runs.{Call, left, Run}
 use Rattle.desk.specs.Spelling.{fieldAt}
 use Rattle.desk.specs.Reached.{SameFor, shown}
 use Rattle.desk.specs.declared.Desk.{Desk}
 use Rattle.desk.proofs.Demand2.{dueOf, verdict-said}
-use Rattle.desk.proofs.Spelling.{marksIn, line-listed}
+use Rattle.desk.proofs.Spelling.{line-listed}
 
 -- ---- the same rules for the reached names
 
--- a rule of a program is one of the book's or a fact in force
-carried : (d e : State) (r : Rule) → (r isIn itsRules (d .book) → r isIn itsRules (e .book)) → (r .head ∈ inForce (d .own) → r .head ∈ inForce (e .own))
-    → r isIn programIn d → r isIn programIn e
-unfolding programIn
-carried d e r rules facts m = ⊎-elim (λ i. Memᴰ·append-left _ (rules i)) of-fact (List·Memᴰ·append-cases (itsRules (d .book)) m)
-  where
-    of-fact : r isIn map fact (members capacity (inForce (d .own))) → r isIn programIn e
-    of-fact i =
-        let w = Memᴰ·of-map fact (members capacity (inForce (d .own))) i in
-        let was = members-are capacity (inForce (d .own)) (w .0) .0 (w .1) in
-        let now : w .0 ∈ inForce (e .own) = rw (ap (λ (q : Rule). q .head) (w .2)) (facts (rw (← w .2) (was .0))) in
-        rw (← w .2) (Memᴰ·append-right (itsRules (e .book)) (Memᴰ·map fact (members-are capacity (inForce (e .own)) (w .0) .1 (now, was .1))))
-
 module _ (d e : State) (n : ℕ) (same : SameFor n d e) where
   reached-by : (k : ℕ) → k ∈ reach (programIn d) n → Reaches (itsRules (d .book)) n k
-  unfolding programIn
-  reached-by k w = reach-is (itsRules (d .book)) n k .0 (rw (reach-facts (itsRules (d .book)) (members capacity (inForce (d .own))) n) at w)
+  reached-by k w = reach-is (itsRules (d .book)) n k .0 (rw (reach-of-program d n) at w)
 
   has : Has (reach (programIn d) n) (programIn e) (programIn d)
-  has r w = let reached = reached-by (nameFor r) w in carried d e r (same .rules r reached .0) (λ h. sym (same .facts (r .head) reached) ∙ h)
+  has r w = let reached = reached-by (nameFor r) w in rule-carried d e r (same .rules r reached .0) (λ h. sym (same .facts (r .head) reached) ∙ h)
 
   lacks : Has (reach (programIn d) n) (programIn d) (programIn e)
-  lacks r w = let reached = reached-by (nameFor r) w in carried e d r (same .rules r reached .1) (λ h. same .facts (r .head) reached ∙ h)
+  lacks r w = let reached = reached-by (nameFor r) w in rule-carried e d r (same .rules r reached .1) (λ h. same .facts (r .head) reached ∙ h)
 
   due-same : (A : ℕ) → nameOf A ≡ n → dueOf (programIn d) A ≡ dueOf (programIn e) A
   due-same A q =
@@ -71,7 +56,7 @@ unreached-unaltered cs ds start k begin m f run g ran A i j same r q h l =
 -- ---- the listing
 
 -- the word of a literal in the listing is that of what is said of it
-mark-shown : (P : Program) (A : ℕ) → markWord (verdict P) (literalsOf (contradictoryNames P)) A ≡ shown (dueOf P A)
+mark-shown : (P : Program) (A : ℕ) → wordsOf P A ≡ shown (dueOf P A)
 mark-shown P A = go (contradictoryNames P (nameOf A))
   where
     go : (t : Bool) → cond t contradictoryWord (verdictWord (verdict P A)) ≡ shown (cond t (refused 24) (gives (verdict P A)))
@@ -89,12 +74,10 @@ field-of w number name A = go (of-name A)
 -- field 2 or 3 of a name's line has the word of what the verdict call says of the name or of its explicit negation
 pub mark-listed : (cs : List Call) (start k : Desk) → Fresh start → Run start cs k → (A : ℕ) → A ∈ inBook (left cs .book)
     → (r : VerdictAnswer) → GivesVerdict (k .shelf) (k .lesson) A r → fieldAt (listingIn (left cs)) (nameOf A + 1) (2 + A % 2) ≡ shown (verdictSaid r)
-unfolding inBook
 mark-listed cs start k f run A i r h = go (left cs .book) refl
   where
     go : (b : BookState) → left cs .book ≡ b → fieldAt (listingIn (left cs)) (nameOf A + 1) (2 + A % 2) ≡ shown (verdictSaid r)
-    go unloaded e = let h = ltb-true A 0 (rw e at i) in absurd (omega arith)
+    go unloaded e = let h = name-inside unloaded A (rw e at i) in absurd (omega arith)
     go (loaded-with names rules) e =
-        let below = ltb-true A (2 * length names) (rw e at i) in
-        ap (λ (fs : List (List ℕ)). getD fs (2 + A % 2) []) (line-listed cs names rules e (nameOf A) (omega arith))
-        ∙ field-of (marksIn (left cs)) _ _ A ∙ mark-shown (programIn (left cs)) A ∙ ap shown (sym (verdict-said cs start k f run A i r h))
+        ap (λ (fs : List (List ℕ)). getD fs (2 + A % 2) []) (line-listed cs names rules e (nameOf A) (name-inside (loaded-with names rules) A (rw e at i)))
+        ∙ field-of (wordsOf (programIn (left cs))) _ _ A ∙ mark-shown (programIn (left cs)) A ∙ ap shown (sym (verdict-said cs start k f run A i r h))

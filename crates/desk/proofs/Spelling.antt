@@ -7,7 +7,6 @@ use mathlib.Core.List.{List, [], _∷_, List·Memᴰ·head, List·Memᴰ·tail}
 use Prim.Native.Nat.{ℕ, _+_, _*_, _<_}
 use native.Mathlib.Omega.{arith}
 use lib.ListN.{length, getD}
-use borrow.Author.Tests.{ltb-true}
 use Rattle.wfsx.specs.Sets.{_isIn_, members}
 use Rattle.wfsx.specs.Program.{Rule}
 use Rattle.wfsx.specs.Model.{M, verdict}
@@ -24,9 +23,11 @@ use Rattle.scan.specs.Text.{fields}
 use Rattle.reader.specs.File.{Outcome, accepted, linesOf, readFile}
 use Rattle.reader.specs.File as reader
 use Rattle.reader.proofs.Said.{names-as-declared}
-use Rattle.lister.specs.Listing.{digits, verdictFields, markWord, listingBy, listingOf}
+use Rattle.lister.specs.Listing.{digits, wordsOf, verdictFields, listingBy}
 use Rattle.lesson.specs.State.{loaded-with, State, itsNames, itsRules, noneLoaded, inForce, programIn, inBook, listingIn}
+use Rattle.lesson.proofs.Order.{name-inside}
 use Rattle.lesson.proofs.Sound.{heads-in-book, heads-in-room}
+use Rattle.lesson.proofs.Standing.{listing-is}
 use Rattle.calls.specs.Lists.{afterAll}
 use Rattle.desk.specs.Runs.{Call, load, change, verdict as verdict-of, search-for, model, working-order, model-by-groups, listing, nothing, afterLoad, specOf, left}
 use Rattle.desk.specs.Spelling.{fieldAt, declaringField, Spelled}
@@ -65,24 +66,15 @@ module _ (names : List (List ℕ)) (rules : List Rule) where
 
 -- ---- the listing
 
--- the words in the verdict fields
-abbrev pub marksIn : State → ℕ → List ℕ
-marksIn d = markWord (verdict (programIn d)) (literalsOf (contradictoryNames (programIn d)))
-
-listing-is : (d : State) → listingIn d ≡ listingBy (itsNames (d .book)) (length (itsRules (d .book))) (length (members capacity (inForce (d .own)))) (rounds (programIn d)) (marksIn d) (clashIn (M (programIn d)))
-unfolding listingIn listingOf programIn
-listing-is d = refl
-
 -- the literals of M are literals of the book
 clash-below : (cs : List Call) (n : ℕ) → clashIn (M (programIn (left cs))) ≡ Name n → n < length (itsNames (left cs .book))
-unfolding inBook
 clash-below cs n e =
     let d = left cs in
     let base = inBook (d .book) in
     let over = heads-in-book d (left-sound cs) in
     let both = clash-name (programIn d) (heads-in-room d (left-sound cs)) base over n .0 e .1 .0 in
     let inside = heads-in (programIn d) base over (2 * n) (M-head (programIn d) (2 * n) (both .0)) in
-    omega (arith, ltb-true (2 * n) (2 * length (itsNames (d .book))) inside)
+    omega (arith, name-inside (d .book) (2 * n) inside)
 
 -- ---- its lines and fields
 
@@ -97,21 +89,21 @@ module _ (cs : List Call) (names : List (List ℕ)) (rules : List Rule) (e : lef
   plain : AllPlain names
   plain = names-plain (from .0) names rules (from .2)
 
-  words : (A : ℕ) → Plain (marksIn d A)
+  words : (A : ℕ) → Plain (wordsOf (programIn d) A)
   words = mark-plain (verdict (programIn d)) (literalsOf (contradictoryNames (programIn d)))
 
   abbrev facts : ℕ
   facts = length (members capacity (inForce (d .own)))
 
-  listed : listingIn d ≡ listingBy names (length rules) facts (rounds (programIn d)) (marksIn d) (clashIn (M (programIn d)))
+  listed : listingIn d ≡ listingBy names (length rules) facts (rounds (programIn d)) (wordsOf (programIn d)) (clashIn (M (programIn d)))
   listed = rw e at (listing-is d)
 
   pub rounds-listed : fieldAt (listingIn (left cs)) 0 4 ≡ digits (rounds (programIn (left cs)))
-  rounds-listed = rw listed (rounds-in-header names plain (length rules) facts (rounds (programIn d)) (marksIn d) words (clashIn (M (programIn d))))
+  rounds-listed = rw listed (rounds-in-header names plain (length rules) facts (rounds (programIn d)) (wordsOf (programIn d)) words (clashIn (M (programIn d))))
 
   -- line i + 1 is that of name i
-  pub line-listed : (i : ℕ) → i < length names → fields (getD (linesOf (listingIn (left cs))) (i + 1) []) ≡ digits i ∷ getD names i [] ∷ verdictFields (marksIn (left cs)) i
-  line-listed i h = rw listed (line-fields names plain (length rules) facts (rounds (programIn d)) (marksIn d) words (clashIn (M (programIn d))) i h)
+  pub line-listed : (i : ℕ) → i < length names → fields (getD (linesOf (listingIn (left cs))) (i + 1) []) ≡ digits i ∷ getD names i [] ∷ verdictFields (wordsOf (programIn (left cs))) i
+  line-listed i h = rw listed (line-fields names plain (length rules) facts (rounds (programIn d)) (wordsOf (programIn d)) words (clashIn (M (programIn d))) i h)
 
   declared : (k : ℕ) → getD names k [] ≡ declaringField (from .0) k
   declared k = ap (λ (ns : List (List ℕ)). getD ns k []) (names-as-declared (from .0) names rules (from .2))
@@ -126,6 +118,6 @@ module _ (cs : List Call) (names : List (List ℕ)) (rules : List Rule) (e : lef
         in-its-line = λ i h. ap (λ (fs : List (List ℕ)). getD fs 1 []) (line-listed i h) ∙ declared i;
         in-the-header = λ n q. (
           rw e at (clash-below cs n q),
-          rw (listed, q) (name-in-header names plain (length rules) facts (rounds (programIn d)) (marksIn d) words n ∙ declared n),
+          rw (listed, q) (name-in-header names plain (length rules) facts (rounds (programIn d)) (wordsOf (programIn d)) words n ∙ declared n),
         );
       }

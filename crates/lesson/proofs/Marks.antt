@@ -31,6 +31,7 @@ use Rattle.reach.specs.Reaching.{ReachingBoth}
 use Rattle.lister.specs.declared.Marks.{Marks}
 use Rattle.lesson.specs.State.{BookState, itsNames, inBook, contradictoryBelow}
 use Rattle.lesson.specs.Calls.{MarksOf}
+use Rattle.lesson.proofs.Order.{name-inside}
 
 -- ---- the contradictory names
 
@@ -67,10 +68,8 @@ module _ (b : Book) (F : Set) where
 
 -- for a literal of the book the set tells whether its name is contradictory
 pub contradictory-at : (b : BookState) (P : Program) (A : ℕ) → A ∈ inBook b → contradictoryBelow (length (itsNames b)) P A ≡ contradictoryNames P (nameOf A)
-unfolding contradictoryBelow inBook
-contradictory-at b P A i =
-    let h = ltb-true A (2 * length (itsNames b)) i in
-    ap (λ (t : Bool). t && contradictoryNames P (nameOf A)) (lt-ltb (nameOf A) (length (itsNames b)) (omega arith))
+unfolding contradictoryBelow
+contradictory-at b P A i = ap (λ (t : Bool). t && contradictoryNames P (nameOf A)) (lt-ltb (nameOf A) (length (itsNames b)) (name-inside b A i))
 
 -- the marks of a program have room in memory
 pub marks-exist : (n : ℕ) (P : Program) → 2 * n ≤ capacity → Heads⊆ P room → (m : Marks) × MarksOf n P m

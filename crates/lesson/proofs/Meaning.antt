@@ -1,13 +1,20 @@
--- The meaning of a shelf by its bits: whether it has a book, and which literals are in it.
+-- The meaning of a shelf by its bits: whether it has a book, and which literals are in it. And the program of a book with its facts: its rules, and what its
+-- names reach.
 use mathlib.Core.Path.{_≡_, refl, sym, _∙_, ap}
 use mathlib.Core.Bool.{Bool, true, false, cond, true≢false}
+use mathlib.Core.Logic.{⊎-elim}
+use mathlib.Core.List.{map, List·Memᴰ·append-cases, Memᴰ·append-left, Memᴰ·append-right, Memᴰ·map, Memᴰ·of-map}
 use Prim.Native.Nat.{ℕ, _*_, _≤_, _<_}
 use native.Mathlib.Omega.{arith}
 use lib.Dec.{eqb, ltb}
 use lib.ListN.{length}
 use borrow.Author.Tests.{eq-eqb, ne-eqb, ltb-true, lt-ltb, le-ltb}
-use Rattle.wfsx.specs.Sets.{_∈_, members}
+use Rattle.wfsx.specs.Sets.{_∈_, _isIn_, members}
+use Rattle.wfsx.specs.Program.{Rule, fact}
+use Rattle.wfsx.specs.Reach.{reach}
 use Rattle.wfsx.specs.Groups.{workingOrder}
+use Rattle.wfsx.proofs.Members.{members-are}
+use Rattle.wfsx.proofs.Reach.{reach-facts}
 use Rattle.wfsx.proofs.Order.{order-facts}
 use Rattle.litset.specs.Words.{capacity}
 use Rattle.book.specs.Limits.{maxNames}
@@ -70,3 +77,21 @@ module _ (s : Shelf) where
 pub order-of-program : (d : State) → orderIn (d .book) ≡ workingOrder (programIn d) (length (itsNames (d .book)))
 unfolding orderIn programIn
 order-of-program d = sym (order-facts (itsRules (d .book)) (members capacity (inForce (d .own))) (length (itsNames (d .book))))
+
+-- nor of what a name reaches
+pub reach-of-program : (d : State) (n : ℕ) → reach (programIn d) n ≡ reach (itsRules (d .book)) n
+unfolding programIn
+reach-of-program d n = reach-facts (itsRules (d .book)) (members capacity (inForce (d .own))) n
+
+-- a rule of the program is one of the book's, or a fact in force
+pub rule-carried : (d e : State) (r : Rule) → (r isIn itsRules (d .book) → r isIn itsRules (e .book)) → (r .head ∈ inForce (d .own) → r .head ∈ inForce (e .own))
+    → r isIn programIn d → r isIn programIn e
+unfolding programIn
+rule-carried d e r rules facts m = ⊎-elim (λ i. Memᴰ·append-left _ (rules i)) of-fact (List·Memᴰ·append-cases (itsRules (d .book)) m)
+  where
+    of-fact : r isIn map fact (members capacity (inForce (d .own))) → r isIn programIn e
+    of-fact i =
+        let w = Memᴰ·of-map fact (members capacity (inForce (d .own))) i in
+        let was = members-are capacity (inForce (d .own)) (w .0) .0 (w .1) in
+        let now : w .0 ∈ inForce (e .own) = rw (ap (λ (q : Rule). q .head) (w .2)) (facts (rw (← w .2) (was .0))) in
+        rw (← w .2) (Memᴰ·append-right (itsRules (e .book)) (Memᴰ·map fact (members-are capacity (inForce (e .own)) (w .0) .1 (now, was .1))))

@@ -1,11 +1,13 @@
 -- The order 20, 21, then the one that fits the call: what a call says once the state has been looked at.
 use mathlib.Core.Path.{_≡_, refl, sym, _∙_, ap}
 use mathlib.Core.Bool.{Bool, true, false, cond, true≢false}
-use Prim.Native.Nat.{ℕ}
+use Prim.Native.Nat.{ℕ, _*_, _<_}
 use native.Mathlib.Omega.{arith}
+use lib.ListN.{length}
 use borrow.Author.Tests.{eq-eqb, ne-eqb, ltb-true}
 use Rattle.wfsx.specs.Sets.{_∈_}
-use Rattle.lesson.specs.State.{Ack, acknowledged, BookState, unloaded, loaded-with, noneLoaded, inBook, Said, gives, refused, ifLoaded, inOrder}
+use Rattle.wfsx.specs.Reach.{nameOf}
+use Rattle.lesson.specs.State.{Ack, acknowledged, BookState, unloaded, loaded-with, itsNames, noneLoaded, inBook, Said, gives, refused, ifLoaded, inOrder}
 use Rattle.lesson.specs.Calls.{numberSays}
 
 abbrev isGiven : {X : Type 0} → Said X → Bool
@@ -63,6 +65,11 @@ pub some-book : (b : BookState) (A : ℕ) → A ∈ inBook b → noneLoaded b �
 unfolding inBook
 some-book unloaded A i = let h = ltb-true A 0 i in absurd (omega arith)
 some-book (loaded-with names rules) A i = refl
+
+-- a literal of a book is of one of its names
+pub name-inside : (b : BookState) (A : ℕ) → A ∈ inBook b → nameOf A < length (itsNames b)
+unfolding inBook
+name-inside b A i = let h = ltb-true A (2 * length (itsNames b)) i in omega arith
 
 -- what a number says
 pub number-refused : (n : ℕ) → (n ≡ 0 → ⊥) → numberSays n ≡ refused n

@@ -5,16 +5,19 @@ use mathlib.Core.List.{List, []}
 use Prim.Native.Nat.{ℕ, _*_}
 use lib.ListN.{length}
 use borrow.Author.Tests.{lt-ltb}
-use Rattle.wfsx.specs.Sets.{Set, _∈_, ∅}
+use Rattle.wfsx.specs.Sets.{Set, _∈_, ∅, members}
 use Rattle.wfsx.specs.Program.{Rule}
+use Rattle.wfsx.specs.Model.{M}
+use Rattle.wfsx.specs.Rounds.{rounds}
 use Rattle.wfsx.specs.Reach.{nameOf}
 use Rattle.wfsx.specs.ContradictoryNames.{contradictoryNames}
+use Rattle.litset.specs.Words.{capacity, clashIn}
 use Rattle.book.specs.Book.{namesOf, rulesOf, program, programOf}
 use Rattle.book.specs.declared.Book.{Book}
 use Rattle.book.proofs.Heads.{program-of}
-use Rattle.lister.specs.Listing.{listingOf}
-use Rattle.lister.proofs.Standing.{listing-stands}
-use Rattle.lesson.specs.State.{BookState, loaded-with, Own, emptied, itsNames, itsRules, inForce, programIn, inBook, listingIn, listingFrom, changed}
+use Rattle.lister.specs.Listing.{wordsOf, listingBy, listingOf}
+use Rattle.lister.proofs.Standing.{listing-by, listing-stands}
+use Rattle.lesson.specs.State.{BookState, loaded-with, Own, State, emptied, itsNames, itsRules, inForce, programIn, inBook, listingIn, listingFrom, changed}
 use Rattle.lesson.specs.Calls.{shelfOf, ownOf, meaningOf, contradictoryOf, MarksOf, Standing, bytesOf, Begins, MarksAfter, ChangesTo, LessonAfter, Changes}
 use Rattle.lesson.specs.declared.Shelf.{Shelf}
 use Rattle.lesson.specs.declared.Lesson.{Lesson}
@@ -75,6 +78,11 @@ module _ (s : Shelf) (l : Lesson) (stands : Standing s l) where
   bytes-stand =
       let is = stands .model-is in
       listing-stands _ _ _ _ _ _ _ (is .truths) (is .nonfalse) (λ A h. stands-at A (lt-ltb A (2 * length (itsNames (shelfOf s))) h)) (is .rounds)
+
+-- the listing by its header and the words of its program
+pub listing-is : (d : State) → listingIn d ≡ listingBy (itsNames (d .book)) (length (itsRules (d .book))) (length (members capacity (inForce (d .own)))) (rounds (programIn d)) (wordsOf (programIn d)) (clashIn (M (programIn d)))
+unfolding listingIn programIn
+listing-is d = listing-by (itsNames (d .book)) (itsRules (d .book)) (inForce (d .own))
 
 -- the listing of a book with no facts
 pub listing-begun : (names : List (List ℕ)) (rules : List Rule) → listingIn (record { book = loaded-with names rules; own = emptied }) ≡ listingOf names rules ∅

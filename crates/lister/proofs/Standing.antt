@@ -7,15 +7,15 @@ use native.Mathlib.Omega.{arith}
 use lib.ListN.{length}
 use Rattle.wfsx.specs.Sets.{Set, members}
 use Rattle.wfsx.specs.Program.{Rule}
-use Rattle.wfsx.specs.Model.{M, N, verdict}
+use Rattle.wfsx.specs.Model.{M, N}
 use Rattle.wfsx.specs.Rounds.{rounds}
-use Rattle.wfsx.specs.Reach.{nameOf, literalsOf}
+use Rattle.wfsx.specs.Reach.{nameOf}
 use Rattle.wfsx.specs.ContradictoryNames.{contradictoryNames}
 use Rattle.litset.specs.Words.{capacity, clashIn}
 use Rattle.litset.specs.declared.Clash.{Clash}
 use Rattle.book.specs.Book.{program}
 use Rattle.fixpoint.proofs.Published.{verdict-same}
-use Rattle.lister.specs.Listing.{digits, line, markWord, nameLines, headerBy, listingBySets, listingOf}
+use Rattle.lister.specs.Listing.{digits, line, wordsOf, nameLines, headerBy, listingBy, listingBySets, listingOf}
 
 -- lines with the same words are the same
 lines-same : (w x : ℕ → List ℕ) (k : ℕ) (names : List (List ℕ)) → ((A : ℕ) → A < 2 * (k + length names) → w A ≡ x A) → nameLines w k names ≡ nameLines x k names
@@ -26,6 +26,12 @@ lines-same w x k (name ∷ names) same =
     (ap₂ (λ (a b : List ℕ). line (digits k) (name ∷ a ∷ b ∷ [])) (same (2 * k) (omega arith)) (same (2 * k + 1) (omega arith)))
     (lines-same w x (suc k) names (λ A h. same A (omega arith)))
 
+-- the listing by its header and the words of its program
+pub listing-by : (names : List (List ℕ)) (rules : List Rule) (facts : Set)
+    → let P = program rules facts in listingOf names rules facts ≡ listingBy names (length rules) (length (members capacity facts)) (rounds P) (wordsOf P) (clashIn (M P))
+unfolding listingOf
+listing-by names rules facts = refl
+
 module _ (names : List (List ℕ)) (rules : List Rule) (facts T U C : Set) (k : ℕ) where
   pub listing-stands : T ≡ M (program rules facts) → U ≡ N (program rules facts)
       → ((A : ℕ) → A < 2 * length names → C A ≡ contradictoryNames (program rules facts) (nameOf A)) → k ≡ rounds (program rules facts)
@@ -35,4 +41,4 @@ module _ (names : List (List ℕ)) (rules : List Rule) (facts T U C : Set) (k : 
       let P = program rules facts in
       ap₂ (λ (a b : List ℕ). a ++ b)
       (ap₂ (λ (j : ℕ) (clash : Clash). headerBy names (length rules) (length (members capacity facts)) j clash) n (ap clashIn t))
-      (lines-same _ (markWord (verdict P) (literalsOf (contradictoryNames P))) 0 names (λ A h. rw (c A (omega arith), verdict-same P T U t u A) refl))
+      (lines-same _ (wordsOf P) 0 names (λ A h. rw (c A (omega arith), verdict-same P T U t u A) refl))

@@ -5,7 +5,7 @@ use Prim.Native.Nat.{ℕ, zero, suc, _+_, _*_, _/_, _%_}
 use lib.Dec.{ltb}
 use lib.ListN.{length, getD}
 use Rattle.wfsx.specs.Sets.{Set, members}
-use Rattle.wfsx.specs.Program.{Rule, withFacts}
+use Rattle.wfsx.specs.Program.{Rule, Program, withFacts}
 use Rattle.wfsx.specs.Model.{M, Verdict, is-true, is-false, is-undefined, verdict}
 use Rattle.wfsx.specs.Rounds.{rounds}
 use Rattle.wfsx.specs.Reach.{literalsOf}
@@ -80,6 +80,10 @@ counts names rules facts k = digits names ∷ digits rules ∷ digits facts ∷ 
 abbrev pub markWord : (ℕ → Verdict) → Set → ℕ → List ℕ
 markWord v C A = cond (C A) contradictoryWord (verdictWord (v A))
 
+-- the words of the literals of P
+abbrev pub wordsOf : Program → ℕ → List ℕ
+wordsOf P = markWord (verdict P) (literalsOf (contradictoryNames P))
+
 -- The fields behind name k: the verdict of the name, and the verdict of its explicit negation. Here and below w gives the word of each literal.
 abbrev pub verdictFields : (ℕ → List ℕ) → ℕ → List (List ℕ)
 verdictFields w k = w (2 * k) ∷ w (2 * k + 1) ∷ []
@@ -110,7 +114,7 @@ unfoldable pub listingOf : List (List ℕ) → List Rule → Set → List ℕ
 listingOf names rules facts =
     let putIn = members capacity facts in
     let P = withFacts rules putIn in
-    listingBy names (length rules) (length putIn) (rounds P) (markWord (verdict P) (literalsOf (contradictoryNames P))) (clashIn (M P))
+    listingBy names (length rules) (length putIn) (rounds P) (wordsOf P) (clashIn (M P))
 
 -- the same by sets and a number in the place of M, N, the literals whose verdicts 24 would refuse, and the rounds (`proofs/Standing.antt`: with these it
 -- is `listingOf`)
