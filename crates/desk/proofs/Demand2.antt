@@ -90,7 +90,7 @@ module _ (cs : List Call) (start k : Desk) (f : Fresh start) (run : Run start cs
       let U = nonfalseOf (k .lesson) in
       let C = contradictoryOf (k .lesson) in
       let marks = marks-left cs start k f run in
-      let there : C A ≡ contradictoryNames P (nameOf A) = ap (λ (S : Set). S A) (marks .contradictory-are) ∙ contradictory-at b P A i in
+      let there = contradictory-at b P C (marks .contradictory-are) A i in
       h .says ∙ ap (λ (d : State). verdictSays (d .book) T U C A) (left-means cs start k f run) ∙ verdict-inside b T U C A i
       ∙ rw (there, verdict-same P T U (marks .model-is .truths) (marks .model-is .nonfalse) A) refl
 

@@ -33,6 +33,7 @@ abbrev pub answered : State → Search → Search
 answered d s =
     record { literal = s .literal; default = s .default; tree = s .tree; yes = answer (programIn d) (s .tree) (questionOf (s .literal) (s .default)) }
 
+-- what the verdict call says of a literal
 abbrev pub judged : State → ℕ → Said Verdict
 judged d A = let P = programIn d in verdictSays (d .book) (M P) (N P) (contradictoryBelow (length (itsNames (d .book))) P) A
 

@@ -1,6 +1,6 @@
 -- The marks of a program: the names that reach one with both literals in M are its contradictory names, and since facts alter no reach the book's rules tell
 -- which these are.
-use mathlib.Core.Path.{_≡_, ap}
+use mathlib.Core.Path.{_≡_, _∙_, ap}
 use mathlib.Core.Bool.{Bool, true, _&&_}
 use mathlib.Core.Logic.{_↔_}
 use Prim.Native.Nat.{ℕ, _*_, _≤_}
@@ -67,9 +67,10 @@ module _ (b : Book) (F : Set) where
 -- ---- where they stand
 
 -- for a literal of the book the set tells whether its name is contradictory
-pub contradictory-at : (b : BookState) (P : Program) (A : ℕ) → A ∈ inBook b → contradictoryBelow (length (itsNames b)) P A ≡ contradictoryNames P (nameOf A)
+pub contradictory-at : (b : BookState) (P : Program) (C : Set) → C ≡ contradictoryBelow (length (itsNames b)) P → (A : ℕ) → A ∈ inBook b → C A ≡ contradictoryNames P (nameOf A)
 unfolding contradictoryBelow
-contradictory-at b P A i = ap (λ (t : Bool). t && contradictoryNames P (nameOf A)) (lt-ltb (nameOf A) (length (itsNames b)) (name-inside b A i))
+contradictory-at b P C c A i =
+    ap (λ (S : Set). S A) c ∙ ap (λ (t : Bool). t && contradictoryNames P (nameOf A)) (lt-ltb (nameOf A) (length (itsNames b)) (name-inside b A i))
 
 -- the marks of a program have room in memory
 pub marks-exist : (n : ℕ) (P : Program) → 2 * n ≤ capacity → Heads⊆ P room → (m : Marks) × MarksOf n P m

@@ -92,7 +92,7 @@ search-by d A k question = order-by d A [] _ (λ i. given-by _ _ refl)
 -- where C has the literals of the contradictory names, 24 is said exactly of these
 pub verdict-by : (d : State) (T U C : Set) → C ≡ contradictoryBelow (length (itsNames (d .book))) (programIn d) → (A : ℕ) → By (verdictSays (d .book) T U C A) (verdictRows d A)
 unfolding verdictSays
-verdict-by d T U C c A = order-by d A ((24, ContradictoryName P (nameOf A)) ∷ []) _ (λ i. rw (ap (λ (S : Set). S A) c ∙ contradictory-at (d .book) P A i) (go (contradictoryNames P (nameOf A)) refl))
+verdict-by d T U C c A = order-by d A ((24, ContradictoryName P (nameOf A)) ∷ []) _ (λ i. rw (contradictory-at (d .book) P C c A i) (go (contradictoryNames P (nameOf A)) refl))
   where
     P : Program
     P = programIn d

@@ -5,12 +5,10 @@ use mathlib.Core.List.{List, []}
 use Prim.Native.Nat.{ℕ, _*_}
 use lib.ListN.{length}
 use borrow.Author.Tests.{lt-ltb}
-use Rattle.wfsx.specs.Sets.{Set, _∈_, ∅, members}
+use Rattle.wfsx.specs.Sets.{∅, members}
 use Rattle.wfsx.specs.Program.{Rule}
 use Rattle.wfsx.specs.Model.{M}
 use Rattle.wfsx.specs.Rounds.{rounds}
-use Rattle.wfsx.specs.Reach.{nameOf}
-use Rattle.wfsx.specs.ContradictoryNames.{contradictoryNames}
 use Rattle.litset.specs.Words.{capacity, clashIn}
 use Rattle.book.specs.Book.{namesOf, rulesOf, program, programOf}
 use Rattle.book.specs.declared.Book.{Book}
@@ -18,7 +16,7 @@ use Rattle.book.proofs.Heads.{program-of}
 use Rattle.lister.specs.Listing.{wordsOf, listingBy, listingOf}
 use Rattle.lister.proofs.Standing.{listing-by, listing-stands}
 use Rattle.lesson.specs.State.{BookState, loaded-with, Own, State, emptied, itsNames, itsRules, inForce, programIn, inBook, listingIn, listingFrom, changed}
-use Rattle.lesson.specs.Calls.{shelfOf, ownOf, meaningOf, contradictoryOf, MarksOf, Standing, bytesOf, Begins, MarksAfter, ChangesTo, LessonAfter, Changes}
+use Rattle.lesson.specs.Calls.{shelfOf, ownOf, meaningOf, MarksOf, Standing, bytesOf, Begins, MarksAfter, ChangesTo, LessonAfter, Changes}
 use Rattle.lesson.specs.declared.Shelf.{Shelf}
 use Rattle.lesson.specs.declared.Lesson.{Lesson}
 use Rattle.lesson.specs.declared.Change.{Change}
@@ -68,16 +66,12 @@ module _ (s : Shelf) (l : Lesson) (stands : Standing s l) where
       go change.Done w = changed-stands (changed c (ownOf l)) (r .lesson) w
       go (change.Refused n) w = rw w stands
 
-  -- for a literal of the book the third set tells whether its name is contradictory
-  pub stands-at : (A : ℕ) → A ∈ inBook (shelfOf s) → contradictoryOf l A ≡ contradictoryNames (programIn (meaningOf s l)) (nameOf A)
-  stands-at A i = ap (λ (S : Set). S A) (stands .contradictory-are) ∙ contradictory-at (shelfOf s) (programIn (meaningOf s l)) A i
-
   -- then the bytes that the listing call writes are the listing of documents 01 and 02
   pub bytes-stand : bytesOf s l ≡ listingIn (meaningOf s l)
   unfolding listingFrom listingIn programIn inBook
   bytes-stand =
       let is = stands .model-is in
-      listing-stands _ _ _ _ _ _ _ (is .truths) (is .nonfalse) (λ A h. stands-at A (lt-ltb A (2 * length (itsNames (shelfOf s))) h)) (is .rounds)
+      listing-stands _ _ _ _ _ _ _ (is .truths) (is .nonfalse) (λ A h. contradictory-at (shelfOf s) _ _ (stands .contradictory-are) A (lt-ltb A (2 * length (itsNames (shelfOf s))) h)) (is .rounds)
 
 -- the listing by its header and the words of its program
 pub listing-is : (d : State) → listingIn d ≡ listingBy (itsNames (d .book)) (length (itsRules (d .book))) (length (members capacity (inForce (d .own)))) (rounds (programIn d)) (wordsOf (programIn d)) (clashIn (M (programIn d)))

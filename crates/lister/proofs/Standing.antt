@@ -1,5 +1,5 @@
 -- With M, N, the contradictory names and the rounds of a book's rules and the facts in the place of its three sets and its number, the listing by sets is
--- the listing of document 01. Of the third set the literals of the names matter alone.
+-- the listing of documents 01 and 02. Of the third set the literals of the names matter alone.
 use mathlib.Core.Path.{_≡_, refl, ap, ap₂}
 use mathlib.Core.List.{List, [], _∷_, _++_}
 use Prim.Native.Nat.{ℕ, suc, _+_, _*_, _<_}
