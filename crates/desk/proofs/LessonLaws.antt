@@ -27,7 +27,7 @@ use Rattle.desk.proofs.Laws.{Good, DeskLaws}
 pub change-laws : (c : Change) → DeskLaws (specOf (change c))
 change-laws c =
     record {
-      means = λ k r g h. with-own k r (change-means (k .shelf) (k .lesson) c r h);
+      means = λ k r g h. change-means (k .shelf) (k .lesson) c r h;
       good = λ k r g h.
           record {
             sound = rw (change-means (k .shelf) (k .lesson) c r h) (sound-change c (stateOf k) (g .sound));
@@ -37,10 +37,6 @@ change-laws c =
       kept = λ k r h number line e. (ap (λ (l : Lesson). record { shelf = k .shelf; lesson = l }) (change-kept (k .shelf) (k .lesson) c r h number e), record {});
       replies = λ k g. change-exists (k .shelf) (k .lesson) c (g .sound);
     }
-  where
-    with-own : (k : Desk) (r : ChangeReply) {o : Own} → meaningOf (k .shelf) (r .lesson) .own ≡ o
-        → _≡_ {A = State} (meaningOf (k .shelf) (r .lesson)) (record { book = stateOf k .book; own = o })
-    with-own k r e = ap (λ (o : Own). record { book = shelfOf (k .shelf); own = o }) e
 
 -- ---- the calls that read
 

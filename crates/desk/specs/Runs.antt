@@ -22,7 +22,7 @@ use Rattle.reader.specs.File as reader
 use Rattle.reader.specs.Conditions.{Row, First, IsRefused}
 use Rattle.reader.specs.declared.Answer.the-variants as reading
 use Rattle.fixpoint.specs.Result.{ModelOf}
-use Rattle.lesson.specs.State.{unloaded, loaded-with, emptied, State, programIn, inBook, ContradictoryOver, listingIn, Said, gives, refused, ownAfter}
+use Rattle.lesson.specs.State.{unloaded, loaded-with, emptied, State, programIn, inBook, ContradictoryOver, listingIn, Said, gives, refused, stateAfter}
 use Rattle.lesson.specs.Calls.{changeSaid, Changes, verdictSaid, GivesVerdict, searchSaid, Searches, modelSaid, GivesModel, orderSaid, GivesOrder, GivesGroups, listingSaid, Lists}
 use Rattle.lesson.specs.Conditions.{changeRows, verdictRows, searchRows, bookRows, listingRows}
 use Rattle.lesson.specs.declared.Shelf.{Shelf}
@@ -105,7 +105,7 @@ specOf (change c) =
       Reply = ChangeReply;
       Meets = λ k r. Changes (k .shelf) (k .lesson) c r;
       next = λ k r. record { shelf = k .shelf; lesson = r .lesson };
-      after = λ d. record { book = d .book; own = ownAfter d c };
+      after = λ d. stateAfter d c;
       TurnsDown = λ d number line. First number (changeRows d c);
       RefusedBy = λ r number line. changeSaid (r .answer) ≡ refused number;
       Unwritten = λ r. Unit;

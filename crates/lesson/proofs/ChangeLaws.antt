@@ -10,7 +10,7 @@ use Rattle.wfsx.specs.Sets.{Set, add}
 use Rattle.litset.specs.Words.{capacity, without}
 use Rattle.litset.proofs.Made.{words-for}
 use Rattle.litset.proofs.Words.{without-at}
-use Rattle.lesson.specs.State.{itsNames, inForce, programIn, Said, gives, refused, Ack, acknowledged, itsLiteral, changeFits, changeSays, changedSet, changed, ownAfter}
+use Rattle.lesson.specs.State.{itsNames, inForce, programIn, Said, gives, refused, Ack, acknowledged, itsLiteral, changeFits, changeSays, changedSet, changed, stateAfter}
 use Rattle.lesson.specs.Calls.{shelfOf, ownOf, meaningOf, changeSaid, LessonAfter, Changes}
 use Rattle.lesson.specs.declared.Shelf.{Shelf}
 use Rattle.lesson.specs.declared.Lesson.{Lesson}
@@ -25,13 +25,13 @@ use Rattle.lesson.proofs.Sound.{Sound, sound-change, book-in-room, head
 
 module _ (s : Shelf) (l : Lesson) (c : Change) where
   module _ (r : ChangeReply) (h : Changes s l c r) where
-    pub change-means : ownOf (r .lesson) ≡ ownAfter (meaningOf s l) c
+    pub change-means : meaningOf s (r .lesson) ≡ stateAfter (meaningOf s l) c
     change-means = go (r .answer) (h .says) (h .leaves)
       where
         go : (a : ChangeAnswer) → changeSaid a ≡ changeSays (meaningOf s l) c → LessonAfter s l (changed c (ownOf l)) a (r .lesson)
-            → ownOf (r .lesson) ≡ ownAfter (meaningOf s l) c
-        go change.Done e w = w .own-is ∙ rw (← e) refl
-        go (change.Refused n) e w = ap ownOf w ∙ rw (← e) refl
+            → meaningOf s (r .lesson) ≡ stateAfter (meaningOf s l) c
+        go change.Done e w = rw (w .own-is, ← e) refl
+        go (change.Refused n) e w = rw (w, ← e) refl
 
     pub change-kept : (number : ℕ) → changeSaid (r .answer) ≡ refused number → r .lesson ≡ l
     change-kept number e = go (r .answer) e (h .leaves)

@@ -1,7 +1,7 @@
 -- What a call says is a refusal exactly by the first of its conditions that is met.
 use mathlib.Core.Path.{_≡_, refl, sym, _∙_, ap}
 use mathlib.Core.Bool.{Bool, true, false, cond, true≢false}
-use mathlib.Core.List.{List, [], _∷_}
+use mathlib.Core.List.{List, [], _∷_, _++_}
 use mathlib.Core.Logic.{_↔_, _⊎_, inl, inr}
 use Prim.Native.Nat.{ℕ, _*_, _<_}
 use native.Mathlib.Omega.{arith}
@@ -66,6 +66,27 @@ order-by {X} d A rows fits by = loaded-by d ((21, NotBelow d A) ∷ rows) _ (go 
         let below = ltb-true A (2 * length (itsNames (d .book))) i in
         unmet 21 (NotBelow d A) rows _ (λ q. omega arith) (rw i (by i))
     go (inr o) = met 21 (NotBelow d A) rows _ (ltb-false A (2 * length (itsNames (d .book))) o) (rw o refl)
+
+-- ---- two calls, one after the other
+
+-- the conditions of the second call decide where none of the first's is met
+pub after-given : {X Y : Type 0} (x : X) (rows : List Row) → By (gives x) rows → (more : List Row) (said : Said Y) → By said more → By said (rows ++ more)
+after-given {X} {Y} x rows first more said by = go rows (λ n w. given-refused x n (first n .1 w))
+  where
+    go : (rows : List Row) → ((n : ℕ) → First n rows → ⊥) → By said (rows ++ more)
+    go [] never = by
+    go (row ∷ rows) never =
+        let not-met : row .1 → ⊥ = λ c. never (row .0) (inl (refl, c)) in
+        unmet (row .0) (row .1) (rows ++ more) said not-met (go rows (λ n w. never n (inr (not-met, w))))
+
+-- and are not looked at where one is
+pub after-refused : {X Y : Type 0} (n : ℕ) (rows : List Row) → By {X = X} (refused n) rows → (more : List Row) → By {X = Y} (refused n) (rows ++ more)
+after-refused {X} {Y} n rows first more = go rows (first n .0 refl)
+  where
+    go : (rows : List Row) → First n rows → By {X = Y} (refused n) (rows ++ more)
+    go [] w = absurd w
+    go (row ∷ rows) (inl w) = met (row .0) (row .1) (rows ++ more) _ (w .1) (ap refused (w .0))
+    go (row ∷ rows) (inr w) = unmet (row .0) (row .1) (rows ++ more) _ (w .0) (go rows (w .1))
 
 -- ---- the calls
 

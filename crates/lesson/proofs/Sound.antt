@@ -21,7 +21,7 @@ use Rattle.truth.proofs.Truth.{and-l, or-elim}
 use Rattle.litset.specs.Words.{room, capacity}
 use Rattle.litset.proofs.Words.{without-at}
 use Rattle.book.specs.Limits.{maxNames}
-use Rattle.lesson.specs.State.{unloaded, loaded-with, State, emptied, itsNames, itsRules, inForce, programIn, inBook, ContradictoryOver, Said, gives, refused, Ack, itsLiteral, changeSays, changedSet, changed, unlessRefused, ownAfter}
+use Rattle.lesson.specs.State.{unloaded, loaded-with, State, emptied, itsNames, itsRules, inForce, programIn, inBook, ContradictoryOver, Said, gives, refused, Ack, itsLiteral, changeSays, changedSet, changed, unlessRefused, stateAfter}
 use Rattle.lesson.specs.declared.Change.{Change}
 use Rattle.lesson.specs.declared.Change.the-variants.{PutIn, TakeOut}
 use Rattle.lesson.proofs.Order.{given-inside}
@@ -54,7 +54,7 @@ changed-from : (c : Change) (d : State) → ((A : ℕ) → A ∈ d .own .putIn �
 changed-from (PutIn A) d known i B h = ⊎-elim (λ q. rw (eqb-true B A q) i) (known B) (or-elim (eqb B A) (d .own .putIn B) h)
 changed-from (TakeOut A) d known i B h = known B (and-l (d .own .putIn B) (not (eqb B A)) (sym (without-at A (d .own .putIn) B) ∙ h))
 
-pub sound-change : (c : Change) (d : State) → Sound d → Sound (record { book = d .book; own = ownAfter d c })
+pub sound-change : (c : Change) (d : State) → Sound d → Sound (stateAfter d c)
 unfolding changeSays inForce
 sound-change c d s = go (changeSays d c) refl
   where

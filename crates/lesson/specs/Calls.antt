@@ -163,3 +163,17 @@ bytesOf s l = listingFrom (meaningOf s l) (truthsOf l) (nonfalseOf l) (contradic
 pub record Lists (s : Shelf) (l : Lesson) (before : List ℕ) (r : ListingAnswer) (after : List ℕ) : Type 0 where
   pub says : listingSaid r ≡ listingSays (shelfOf s) (bytesOf s l) before
   pub buffer : after ≡ bufferAfter (bytesOf s l) before (listingSaid r)
+
+-- ---- preview
+
+-- What follows the change of a copy (document 02, A.8): where the change is turned down the answer has its number and no byte is written, and otherwise
+-- answer and bytes are those of the listing call for the copy m.
+abbrev pub FollowedBy : Shelf → ChangeAnswer → Lesson → List ℕ → ListingAnswer → List ℕ → Type 0
+FollowedBy s change.Done m before r after = Lists s m before r after
+FollowedBy s (change.Refused number) m before r after = (r ≡ listing.Refused number) × (after ≡ before)
+
+-- the change of a copy of the lesson, and the listing of that copy
+pub record Previews (s : Shelf) (l : Lesson) (c : Change) (before : List ℕ) (r : ListingAnswer) (after : List ℕ) : Type 0 where
+  pub copy : ChangeReply
+  pub changes : Changes s l c copy
+  pub followed : FollowedBy s (copy .answer) (copy .lesson) before r after

@@ -1,13 +1,13 @@
 -- The conditions of document 01, "When a call is turned down by the state", for each call in their order; that of 24 is document 02's (A.7).
 use mathlib.Core.Path.{_≡_}
-use mathlib.Core.List.{List, [], _∷_}
+use mathlib.Core.List.{List, [], _∷_, _++_}
 use Prim.Native.Nat.{ℕ, _*_, _≤_, _<_}
 use lib.ListN.{length}
 use Rattle.wfsx.specs.Sets.{_∈_, _∉_}
 use Rattle.wfsx.specs.Reach.{nameOf}
 use Rattle.wfsx.specs.ContradictoryNames.{ContradictoryName}
 use Rattle.reader.specs.Conditions.{Row}
-use Rattle.lesson.specs.State.{unloaded, itsNames, State, programIn, listingIn, itsLiteral}
+use Rattle.lesson.specs.State.{unloaded, itsNames, State, programIn, listingIn, itsLiteral, stateAfter}
 use Rattle.lesson.specs.declared.Change.{Change}
 use Rattle.lesson.specs.declared.Change.the-variants.{PutIn, TakeOut}
 
@@ -41,3 +41,7 @@ bookRows d = (20, NoBook d) ∷ []
 -- 25: the lent buffer is shorter than the listing
 abbrev pub listingRows : State → List ℕ → List Row
 listingRows d buffer = (20, NoBook d) ∷ (25, length buffer < length (listingIn d)) ∷ []
+
+-- a preview has those of the change, then those of the listing of what the change leaves (document 02, A.8)
+abbrev pub previewRows : State → Change → List ℕ → List Row
+previewRows d c buffer = changeRows d c ++ listingRows (stateAfter d c) buffer

@@ -116,9 +116,9 @@ abbrev pub unlessRefused : Said Ack → Own → Own → Own
 unlessRefused (gives x) o before = o
 unlessRefused (refused number) o before = before
 
--- what a change leaves the lesson, by its arguments alone
-abbrev pub ownAfter : State → Change → Own
-ownAfter d c = unlessRefused (changeSays d c) (changed c (d .own)) (d .own)
+-- what a change leaves, by its arguments alone
+abbrev pub stateAfter : State → Change → State
+stateAfter d c = record { book = d .book; own = unlessRefused (changeSays d c) (changed c (d .own)) (d .own) }
 
 -- ---- search
 

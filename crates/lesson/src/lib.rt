@@ -7,7 +7,7 @@ ghost use Rattle.litset.specs.Words.{capacity, setOf, clashIn};
 ghost use Rattle.book.specs.Book.{namesOf, programOf};
 ghost use Rattle.search.specs.Questions.{treeOf, questionOf};
 ghost use Rattle.lesson.specs.State.{acknowledged, gives, inOrder, inForce, itsLiteral, changeFits, changeSays, changedSet, isClash};
-ghost use Rattle.lesson.specs.Calls.{shelfOf, ownOf, meaningOf, numberSays, Begins, MarksOf, MarksAfter, Changes, GivesVerdict, Searches, modelSaid, GivesModel, GivesOrder, GivesGroups, Lists};
+ghost use Rattle.lesson.specs.Calls.{shelfOf, ownOf, meaningOf, numberSays, Begins, MarksOf, MarksAfter, Changes, GivesVerdict, Searches, modelSaid, GivesModel, GivesOrder, GivesGroups, Lists, Previews};
 use book::Book;
 use fixpoint::Model;
 use fixpoint::Values;
@@ -332,6 +332,24 @@ pub fn listing(s: Shelf, l: Lesson, buffer: &mut [u8]) -> ListingAnswer
         }
         Written::Short => {
             return ListingAnswer::Refused(25);
+        }
+    }
+}
+
+// ---- preview
+
+// The listing that would follow a change, into a lent buffer. The change is made on a copy of the lesson, so the lesson keeps its facts.
+pub fn preview(s: Shelf, l: Lesson, change: Change, buffer: &mut [u8]) -> ListingAnswer
+    ensures { λ r. ⌜ Previews s l change (now (buffer .entry)) r (now (buffer .exit)) ⌝ }
+{
+    let copy = change_facts(s, l, change);
+    let answer = copy.answer;
+    match answer {
+        ChangeAnswer::Done => {
+            return listing(s, copy.lesson, buffer);
+        }
+        ChangeAnswer::Refused(number) => {
+            return ListingAnswer::Refused(number);
         }
     }
 }

@@ -5,7 +5,7 @@ ghost use Rattle.scan.specs.declared.Alphabet.the-variants.{EitherCase};
 ghost use Rattle.reader.specs.File.{readFile};
 ghost use Rattle.reader.specs.Sizing.{sizeOf};
 ghost use Rattle.search.specs.Questions.{treeOf, questionOf};
-ghost use Rattle.lesson.specs.Calls.{Changes, GivesVerdict, Searches, GivesModel, GivesOrder, GivesGroups, Lists};
+ghost use Rattle.lesson.specs.Calls.{Changes, GivesVerdict, Searches, GivesModel, GivesOrder, GivesGroups, Lists, Previews};
 ghost use Rattle.lesson.specs.declared.Change.the-variants.{PutIn, TakeOut};
 ghost use Rattle.desk.specs.Calls.{Fresh, Loads};
 ghost use Rattle.mezhkura.specs.Numbers.{sizeNumbers, loadNumber, loadLine, changeNumber, verdictNumber, verdictValue, searchNumber, searchValue, modelNumber, modelValue, orderNumber, listingNumber, listingLength, isSet, kindOf, LoadIn, ChangeIn, VerdictIn, SearchIn, ModelIn, OrderIn, GroupsIn, ListingIn};
@@ -391,4 +391,38 @@ pub extern "C" fn mezhkura_listing(desk: Desk, buffer: &mut [u8]) -> ListingRepl
         number: listing_number(answer),
         length: listing_length(answer),
     }
+}
+
+// ---- preview
+
+fn previewed(desk: Desk, change: Change, buffer: &mut [u8]) -> ListingReply
+    ensures { λ r. ⌜ ListingIn (λ a. Previews (desk .shelf) (desk .lesson) change (now (buffer .entry)) a (now (buffer .exit))) r ⌝ }
+{
+    let answer = lesson::preview(desk.shelf, desk.lesson, change, buffer);
+    ListingReply {
+        number: listing_number(answer),
+        length: listing_length(answer),
+    }
+}
+
+#[no_mangle]
+pub extern "C" fn mezhkura_preview_put_in(
+    desk: Desk,
+    literal: usize,
+    buffer: &mut [u8],
+) -> ListingReply
+    ensures { λ r. ⌜ ListingIn (λ a. Previews (desk .shelf) (desk .lesson) (PutIn literal) (now (buffer .entry)) a (now (buffer .exit))) r ⌝ }
+{
+    previewed(desk, Change::PutIn(literal), buffer)
+}
+
+#[no_mangle]
+pub extern "C" fn mezhkura_preview_take_out(
+    desk: Desk,
+    literal: usize,
+    buffer: &mut [u8],
+) -> ListingReply
+    ensures { λ r. ⌜ ListingIn (λ a. Previews (desk .shelf) (desk .lesson) (TakeOut literal) (now (buffer .entry)) a (now (buffer .exit))) r ⌝ }
+{
+    previewed(desk, Change::TakeOut(literal), buffer)
 }
