@@ -40,6 +40,11 @@ module _ {S D : Type 0} (meaning : S → D) (Good : S → Type 0) where
         let w = run-means cs s t g run in
         record { exactly = rw (w .0) at (lawsOf c .exactly t r (w .1) h); as-it-was = lawsOf c .kept t r h }
 
+-- what a list leaves after another
+pub after-parts : {S D C : Type 0} (specOf : C → CallSpec S D) (cs ds : List C) (d : D) → afterAll specOf d (cs ++ ds) ≡ afterAll specOf (afterAll specOf d cs) ds
+after-parts specOf [] ds d = refl
+after-parts specOf (c ∷ cs) ds d = after-parts specOf cs ds (specOf c .after d)
+
 -- Every call of a run is made on a state to which the calls before it ran: so what holds at the end of every run holds at every call of one.
 pub run-parts : {S D C : Type 0} (specOf : C → CallSpec S D) (cs : List C) (c : C) (ds : List C) (s u : S) → RunOf specOf s (cs ++ c ∷ ds) u
     → (t : S) × RunOf specOf s cs t × (r : specOf c .Reply) × specOf c .Meets t r × RunOf specOf (specOf c .next t r) ds u

@@ -2,7 +2,8 @@
 -- bytes that a listing writes from them are the listing of the list's book and facts.
 use mathlib.Core.Path.{_≡_, refl, sym, _∙_, ap}
 use mathlib.Core.Bool.{Bool, true, false, true≢false}
-use mathlib.Core.List.{List}
+use mathlib.Core.Logic.{inl}
+use mathlib.Core.List.{List, [], _∷_, _++_}
 use Prim.Native.Nat.{ℕ, _≤_}
 use lib.ListN.{length}
 use Rattle.wfsx.specs.Sets.{Set, ∅}
@@ -14,9 +15,15 @@ use Rattle.litset.specs.declared.Clash.{Clash}
 use Rattle.litset.specs.declared.Clash.the-variants as clash
 use Rattle.fixpoint.proofs.Published.{no-clash, clash-name}
 use Rattle.reach.specs.Order.{orderTable}
-use Rattle.lesson.specs.State.{BookState, unloaded, loaded-with, State, noneLoaded, inBook, programIn, listingIn, Said, gives, acknowledged, isClash, modelSays, orderIn, bufferAfter}
-use Rattle.lesson.specs.Calls.{shelfOf, truthsOf, nonfalseOf, GivesModel, GivesOrder, GivesGroups, listingSaid, Lists, bytesOf}
-use Rattle.lesson.specs.Conditions.{NoBook}
+use Rattle.reader.specs.Conditions.{First}
+use Rattle.lesson.specs.State.{BookState, unloaded, loaded-with, State, noneLoaded, inBook, programIn, listingIn, Said, gives, acknowledged, isClash, modelSays, orderIn, changeSays, stateAfter, bufferAfter}
+use Rattle.lesson.specs.Calls.{shelfOf, meaningOf, truthsOf, nonfalseOf, Standing, changeSaid, GivesModel, GivesOrder, GivesGroups, listingSaid, Lists, bytesOf, FollowedBy, Previews}
+use Rattle.lesson.specs.Conditions.{NoBook, changeRows}
+use Rattle.lesson.specs.declared.Shelf.{Shelf}
+use Rattle.lesson.specs.declared.Lesson.{Lesson}
+use Rattle.lesson.specs.declared.Change.{Change}
+use Rattle.lesson.specs.declared.ChangeAnswer.{ChangeAnswer}
+use Rattle.lesson.specs.declared.ChangeAnswer.the-variants as changed
 use Rattle.lesson.specs.declared.ModelReply.{ModelReply}
 use Rattle.lesson.specs.declared.OrderReply.{OrderReply}
 use Rattle.lesson.specs.declared.GroupsReply.{GroupsReply}
@@ -27,8 +34,11 @@ use Rattle.lesson.proofs.WithBook.{model-loaded, part-loaded, listing-fits, lis
 use Rattle.lesson.proofs.Sound.{Sound, heads-in-book, heads-in-room, rounds-in-room}
 use Rattle.lesson.proofs.Replies.{bytes-most}
 use Rattle.lesson.proofs.Standing.{bytes-stand}
+use Rattle.lesson.proofs.Rows.{change-by}
+use Rattle.lesson.proofs.Listings.{copy-means, copy-stands}
+use Rattle.calls.proofs.Lists.{after-parts}
 use Rattle.desk.specs.Calls.{stateOf, Fresh}
-use Rattle.desk.specs.Runs.{Call, left, Run, ConsistencyDue, ModelDue, ListingDue}
+use Rattle.desk.specs.Runs.{Call, change, nothing, specOf, left, Run, ConsistencyDue, ModelDue, ListingDue}
 use Rattle.desk.specs.Groups.{nameCount, OrderDue, GroupsDue}
 use Rattle.desk.specs.declared.Desk.{Desk}
 use Rattle.desk.proofs.Left.{left-means, left-good, standing-left}
@@ -40,6 +50,19 @@ loaded d some = go (d .book) some
     go : (b : BookState) → (b ≡ unloaded → ⊥) → noneLoaded b ≡ false
     go unloaded n = absurd (n refl)
     go (loaded-with names rules) n = refl
+
+-- ---- the listing call, over a shelf with a book and a lesson whose marks are those of its program
+
+lists-due : (s : Shelf) (l : Lesson) → noneLoaded (shelfOf s) ≡ false → Standing s l → (buffer : List ℕ) (r : ListingAnswer) (after : List ℕ) → Lists s l buffer r after
+    → ListingDue (meaningOf s l) buffer (listingSaid r) after
+lists-due s l e stands buffer r after h =
+    let bytes = listingIn (meaningOf s l) in
+    let says = rw (bytes-stand s l stands) at (h .says) in
+    let leaves = rw (bytes-stand s l stands) at (h .buffer) in
+    record {
+      fitting = λ fits. let q = says ∙ listing-fits (shelfOf s) e bytes buffer fits in (q, leaves ∙ ap (bufferAfter bytes buffer) q);
+      short = λ short. let q = says ∙ listing-short (shelfOf s) e bytes buffer short in (q, leaves ∙ ap (bufferAfter bytes buffer) q);
+    }
 
 -- ---- the model call
 
@@ -113,9 +136,25 @@ module _ (cs : List Call) (start k : Desk) (f : Fresh start) (run : Run start cs
   -- every listing of a run gives the length of the listing of the list's book and facts, and writes it into a buffer that is long enough
   pub listing-due : (buffer : List ℕ) (r : ListingAnswer) (after : List ℕ) → Lists (k .shelf) (k .lesson) buffer r after → ListingDue (left cs) buffer (listingSaid r) after
   listing-due buffer r after h =
-      let says = rw bytes-left at (h .says) in
-      let leaves = rw bytes-left at (h .buffer) in
-      record {
-        fitting = λ fits. let e = says ∙ listing-fits (shelfOf (k .shelf)) there (listingIn (left cs)) buffer fits in (e, leaves ∙ ap (bufferAfter (listingIn (left cs)) buffer) e);
-        short = λ short. let e = says ∙ listing-short (shelfOf (k .shelf)) there (listingIn (left cs)) buffer short in (e, leaves ∙ ap (bufferAfter (listingIn (left cs)) buffer) e);
-      }
+      rw (left-means cs start k f run) at (lists-due (k .shelf) (k .lesson) there (left-good cs start k f run .stands) buffer r after h)
+
+-- Every preview of a run, where no condition of the change is met, gives and writes what is due of a listing after the same list with the change behind it.
+pub preview-due : (cs : List Call) (start k : Desk) → Fresh start → Run start cs k → (c : Change) → ((number : ℕ) → First number (changeRows (left cs) c) → ⊥)
+    → (buffer : List ℕ) (r : ListingAnswer) (after : List ℕ) → Previews (k .shelf) (k .lesson) c buffer r after
+    → ListingDue (left (cs ++ change c ∷ [])) buffer (listingSaid r) after
+preview-due cs start k f run c never buffer r after h = go (h .copy .answer) (h .changes .says) (h .followed)
+  where
+    means : stateOf k ≡ left cs
+    means = left-means cs start k f run
+
+    copy-left : meaningOf (k .shelf) (h .copy .lesson) ≡ left (cs ++ change c ∷ [])
+    copy-left =
+        copy-means (k .shelf) (k .lesson) c buffer r after h ∙ ap (λ (d : State). stateAfter d c) means ∙ sym (after-parts specOf cs (change c ∷ []) nothing)
+
+    go : (a : ChangeAnswer) → changeSaid a ≡ changeSays (stateOf k) c → FollowedBy (k .shelf) a (h .copy .lesson) buffer r after
+        → ListingDue (left (cs ++ change c ∷ [])) buffer (listingSaid r) after
+    go changed.Done e w =
+        let loaded = there cs start k f run (λ none. never 20 (inl (refl, none))) in
+        let stands = copy-stands (k .shelf) (k .lesson) c buffer r after h (left-good cs start k f run .stands) in
+        rw copy-left at (lists-due (k .shelf) (h .copy .lesson) loaded stands buffer r after w)
+    go (changed.Refused n) e w = absurd (never n (change-by (left cs) c n .0 (rw (← means) (sym e))))

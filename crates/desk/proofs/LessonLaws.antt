@@ -6,19 +6,18 @@ use mathlib.Core.Logic.{_↔_}
 use Prim.Native.Nat.{ℕ}
 use Rattle.wfsx.specs.Trees.{Tree}
 use Rattle.search.specs.Questions.{questionOf}
-use Rattle.lesson.specs.State.{Own, State, bufferAfter}
-use Rattle.lesson.specs.Calls.{shelfOf, meaningOf, bytesOf}
+use Rattle.lesson.specs.State.{State}
 use Rattle.lesson.specs.declared.Lesson.{Lesson}
 use Rattle.lesson.specs.declared.Change.{Change}
-use Rattle.lesson.specs.declared.ChangeReply.{ChangeReply}
-use Rattle.lesson.proofs.Rows.{change-by, verdict-by, search-by, model-by, working-order-by, listing-by}
+use Rattle.lesson.proofs.Rows.{change-by, verdict-by, search-by, model-by, working-order-by}
 use Rattle.lesson.proofs.Sound.{sound-change}
-use Rattle.lesson.proofs.Standing.{change-stands, bytes-stand}
+use Rattle.lesson.proofs.Standing.{change-stands}
 use Rattle.lesson.proofs.ChangeLaws.{change-means, change-kept, change-exists}
 use Rattle.lesson.proofs.Exists.{verdict-exists, search-exists, model-reply-exists, order-exists, groups-exists, listing-exists}
+use Rattle.lesson.proofs.Listings.{listing-unwritten, listing-turned, preview-unwritten, preview-turned, preview-exists}
 use Rattle.calls.specs.Lists.{CallSpec}
 use Rattle.desk.specs.Calls.{stateOf}
-use Rattle.desk.specs.Runs.{change, verdict, search-for, model, working-order, model-by-groups, listing, specOf}
+use Rattle.desk.specs.Runs.{change, verdict, search-for, model, working-order, model-by-groups, listing, preview, specOf}
 use Rattle.desk.specs.declared.Desk.{Desk}
 use Rattle.desk.proofs.Laws.{Good, DeskLaws}
 
@@ -46,7 +45,7 @@ record ReadLaws (c : CallSpec Desk State) : Type 0 where
   pub leaves : (k : Desk) (r : c .Reply) → c .next k r ≡ k
   pub exactly : (k : Desk) (r : c .Reply) → Good k → c .Meets k r → (number line : ℕ) → c .RefusedBy r number line ↔ c .TurnsDown (stateOf k) number line
   pub unwritten : (k : Desk) (r : c .Reply) → c .Meets k r → (number line : ℕ) → c .RefusedBy r number line → c .Unwritten r
-  pub replies : (k : Desk) → (r : c .Reply) × c .Meets k r
+  pub replies : (k : Desk) → Good k → (r : c .Reply) × c .Meets k r
 
 reading : {c : CallSpec Desk State} → ReadLaws c → DeskLaws c
 reading {c} h =
@@ -55,7 +54,7 @@ reading {c} h =
       good = λ k r g e. rw (h .leaves k r) g;
       exactly = h .exactly;
       kept = λ k r e number line q. (h .leaves k r, h .unwritten k r e number line q);
-      replies = λ k g. h .replies k;
+      replies = h .replies;
     }
 
 pub verdict-laws : (A : ℕ) → DeskLaws (specOf (verdict A))
@@ -66,7 +65,7 @@ verdict-laws A =
       leaves = λ k r. refl;
       exactly = λ k r g h number line. rw (h .says) (verdict-by (stateOf k) _ _ _ (g .stands .contradictory-are) A number);
       unwritten = λ k r h number line e. record {};
-      replies = λ k. verdict-exists (k .shelf) (k .lesson) A;
+      replies = λ k g. verdict-exists (k .shelf) (k .lesson) A;
     })
 
 pub search-laws : (A : ℕ) (default : Bool) (t : Tree) → DeskLaws (specOf (search-for A default t))
@@ -77,7 +76,7 @@ search-laws A default t =
       leaves = λ k r. refl;
       exactly = λ k r g h number line. rw (h .says) (search-by (stateOf k) A t (questionOf A default) number);
       unwritten = λ k r h number line e. record {};
-      replies = λ k. search-exists (k .shelf) (k .lesson) A t (questionOf A default);
+      replies = λ k g. search-exists (k .shelf) (k .lesson) A t (questionOf A default);
     })
 
 pub model-laws : DeskLaws (specOf model)
@@ -88,7 +87,7 @@ model-laws =
       leaves = λ k r. refl;
       exactly = λ k r g h number line. rw (h .says) (model-by (stateOf k) _ number);
       unwritten = λ k r h number line e. record {};
-      replies = λ k. model-reply-exists (k .shelf) (k .lesson);
+      replies = λ k g. model-reply-exists (k .shelf) (k .lesson);
     })
 
 pub order-laws : DeskLaws (specOf working-order)
@@ -99,7 +98,7 @@ order-laws =
       leaves = λ k r. refl;
       exactly = λ k r g h number line. rw (h .says) (working-order-by (stateOf k) number);
       unwritten = λ k r h number line e. record {};
-      replies = λ k. order-exists (k .shelf) (k .lesson);
+      replies = λ k g. order-exists (k .shelf) (k .lesson);
     })
 
 pub groups-laws : DeskLaws (specOf model-by-groups)
@@ -110,7 +109,7 @@ groups-laws =
       leaves = λ k r. refl;
       exactly = λ k r g h number line. rw (h .says) (model-by (stateOf k) _ number);
       unwritten = λ k r h number line e. record {};
-      replies = λ k. groups-exists (k .shelf) (k .lesson);
+      replies = λ k g. groups-exists (k .shelf) (k .lesson);
     })
 
 pub listing-laws : (buffer : List ℕ) → DeskLaws (specOf (listing buffer))
@@ -119,7 +118,18 @@ listing-laws buffer =
     (record {
       stays = λ d. refl;
       leaves = λ k r. refl;
-      exactly = λ k r g h number line. rw (h .says, bytes-stand (k .shelf) (k .lesson) (g .stands)) (listing-by (stateOf k) buffer number);
-      unwritten = λ k r h number line e. h .buffer ∙ ap (bufferAfter (bytesOf (k .shelf) (k .lesson)) buffer) e;
-      replies = λ k. let w = listing-exists (k .shelf) (k .lesson) buffer in ((w .0, w .1), w .2);
+      exactly = λ k r g h number line. listing-turned (k .shelf) (k .lesson) buffer (r .0) (r .1) h (g .stands) number;
+      unwritten = λ k r h number line e. listing-unwritten (k .shelf) (k .lesson) buffer (r .0) (r .1) h number e;
+      replies = λ k g. let w = listing-exists (k .shelf) (k .lesson) buffer in ((w .0, w .1), w .2);
+    })
+
+pub preview-laws : (c : Change) (buffer : List ℕ) → DeskLaws (specOf (preview c buffer))
+preview-laws c buffer =
+    reading
+    (record {
+      stays = λ d. refl;
+      leaves = λ k r. refl;
+      exactly = λ k r g h number line. preview-turned (k .shelf) (k .lesson) c buffer (r .0) (r .1) h (g .stands) number;
+      unwritten = λ k r h number line e. preview-unwritten (k .shelf) (k .lesson) c buffer (r .0) (r .1) h number e;
+      replies = λ k g. let w = preview-exists (k .shelf) (k .lesson) c buffer (g .sound) in ((w .0, w .1), w .2);
     })

@@ -23,8 +23,8 @@ use Rattle.reader.specs.Conditions.{Row, First, IsRefused}
 use Rattle.reader.specs.declared.Answer.the-variants as reading
 use Rattle.fixpoint.specs.Result.{ModelOf}
 use Rattle.lesson.specs.State.{unloaded, loaded-with, emptied, State, programIn, inBook, ContradictoryOver, listingIn, Said, gives, refused, stateAfter}
-use Rattle.lesson.specs.Calls.{changeSaid, Changes, verdictSaid, GivesVerdict, searchSaid, Searches, modelSaid, GivesModel, orderSaid, GivesOrder, GivesGroups, listingSaid, Lists}
-use Rattle.lesson.specs.Conditions.{changeRows, verdictRows, searchRows, bookRows, listingRows}
+use Rattle.lesson.specs.Calls.{changeSaid, Changes, verdictSaid, GivesVerdict, searchSaid, Searches, modelSaid, GivesModel, orderSaid, GivesOrder, GivesGroups, listingSaid, Lists, Previews}
+use Rattle.lesson.specs.Conditions.{changeRows, verdictRows, searchRows, bookRows, listingRows, previewRows}
 use Rattle.lesson.specs.declared.Shelf.{Shelf}
 use Rattle.lesson.specs.declared.Lesson.{Lesson}
 use Rattle.lesson.specs.declared.Change.{Change}
@@ -40,8 +40,8 @@ use Rattle.desk.specs.Calls.{Loads}
 use Rattle.desk.specs.declared.Desk.{Desk}
 use Rattle.desk.specs.declared.LoadReply.{LoadReply}
 
--- A call with its arguments. A load has the bytes of its file, a listing those of the lent buffer; a change puts a literal in or takes it out; a search has a
--- literal number, whether `~` stands before it, and T or TU.
+-- A call with its arguments. A load has the bytes of its file, a listing and a preview those of the lent buffer; a change puts a literal in or takes it out, and
+-- a preview has the change that it tries; a search has a literal number, whether `~` stands before it, and T or TU.
 pub data Call : Type 0 where
   load : List ℕ → Call
   change : Change → Call
@@ -51,6 +51,7 @@ pub data Call : Type 0 where
   working-order : Call
   model-by-groups : Call
   listing : List ℕ → Call
+  preview : Change → List ℕ → Call
 
 -- ---- each call as one record
 
@@ -116,6 +117,7 @@ specOf model = readingCall ModelReply GivesModel (λ r. modelSaid (r .answer)) b
 specOf working-order = readingCall OrderReply (λ s l r. GivesOrder s r) (λ r. orderSaid (r .answer)) bookRows
 specOf model-by-groups = readingCall GroupsReply GivesGroups (λ r. modelSaid (r .answer)) bookRows
 specOf (listing buffer) = lentCall buffer ListingAnswer (λ s l r after. Lists s l buffer r after) listingSaid (λ d. listingRows d buffer)
+specOf (preview c buffer) = lentCall buffer ListingAnswer (λ s l r after. Previews s l c buffer r after) listingSaid (λ d. previewRows d c buffer)
 
 -- ---- lists
 

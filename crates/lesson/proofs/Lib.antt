@@ -9,4 +9,4 @@ pub mod Standing
 pub mod Rows
 pub mod ChangeLaws
 pub mod Exists
-pub mod Previews
+pub mod Listings

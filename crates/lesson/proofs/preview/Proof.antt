@@ -1,6 +1,6 @@
 -- `preview`: the reply of the change is the copy, and what the listing call answers and writes for it, or the number that turns the change down, follows.
 use borrow.Author.Needs.{needs}
-use Rattle.lesson.proofs.Previews.{preview-listed, preview-refused}
+use Rattle.lesson.proofs.Listings.{preview-listed, preview-refused}
 use Rattle.lesson.proofs.preview.Statement.{statement}
 use Rattle.lesson.proofs.preview.Tie as tie
 
