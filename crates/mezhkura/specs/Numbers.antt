@@ -139,15 +139,11 @@ GroupsIn May r =
     (q : lesson-groups.GroupsReply) × May q × (r .number ≡ modelNumber (q .answer)) × (r .contradictory ≡ modelValue (q .answer))
     × (r .truths ≡ q .values .truths) × (r .nonfalse ≡ q .values .nonfalse)
 
--- ---- listing
+-- ---- listing, preview
 
-abbrev pub listingNumber : ListingAnswer → ℕ
-listingNumber (listing.Length n) = 0
-listingNumber (listing.Refused number) = number
-
-abbrev pub listingLength : ListingAnswer → ℕ
-listingLength (listing.Length n) = n
-listingLength (listing.Refused number) = 0
+abbrev pub listingNumbers : ListingAnswer → ListingReply
+listingNumbers (listing.Length n) = record { number = 0; length = n }
+listingNumbers (listing.Refused number) = record { number = number; length = 0 }
 
 abbrev pub ListingIn : (ListingAnswer → Type 0) → ListingReply → Type 0
-ListingIn May r = (a : ListingAnswer) × May a × (r .number ≡ listingNumber a) × (r .length ≡ listingLength a)
+ListingIn May r = (a : ListingAnswer) × May a × (r ≡ listingNumbers a)

@@ -8,7 +8,7 @@ ghost use Rattle.search.specs.Questions.{treeOf, questionOf};
 ghost use Rattle.lesson.specs.Calls.{Changes, GivesVerdict, Searches, GivesModel, GivesOrder, GivesGroups, Lists, Previews};
 ghost use Rattle.lesson.specs.declared.Change.the-variants.{PutIn, TakeOut};
 ghost use Rattle.desk.specs.Calls.{Fresh, Loads};
-ghost use Rattle.mezhkura.specs.Numbers.{sizeNumbers, loadNumber, loadLine, changeNumber, verdictNumber, verdictValue, searchNumber, searchValue, modelNumber, modelValue, orderNumber, listingNumber, listingLength, isSet, kindOf, LoadIn, ChangeIn, VerdictIn, SearchIn, ModelIn, OrderIn, GroupsIn, ListingIn};
+ghost use Rattle.mezhkura.specs.Numbers.{sizeNumbers, loadNumber, loadLine, changeNumber, verdictNumber, verdictValue, searchNumber, searchValue, modelNumber, modelValue, orderNumber, listingNumbers, isSet, kindOf, LoadIn, ChangeIn, VerdictIn, SearchIn, ModelIn, OrderIn, GroupsIn, ListingIn};
 use desk::Desk;
 use fixpoint::Verdict;
 use lesson::Change;
@@ -364,21 +364,12 @@ pub extern "C" fn mezhkura_model_by_groups(desk: Desk) -> GroupsReply
 
 // ---- listing
 
-fn listing_number(a: ListingAnswer) -> u8
-    ensures { λ r. ⌜ r ≡ listingNumber a ⌝ }
+fn listing_reply(a: ListingAnswer) -> ListingReply
+    ensures { λ r. ⌜ r ≡ listingNumbers a ⌝ }
 {
     match a {
-        ListingAnswer::Length(_) => 0,
-        ListingAnswer::Refused(number) => number,
-    }
-}
-
-fn listing_length(a: ListingAnswer) -> usize
-    ensures { λ r. ⌜ r ≡ listingLength a ⌝ }
-{
-    match a {
-        ListingAnswer::Length(n) => n,
-        ListingAnswer::Refused(_) => 0,
+        ListingAnswer::Length(length) => ListingReply { number: 0, length },
+        ListingAnswer::Refused(number) => ListingReply { number, length: 0 },
     }
 }
 
@@ -386,11 +377,7 @@ fn listing_length(a: ListingAnswer) -> usize
 pub extern "C" fn mezhkura_listing(desk: Desk, buffer: &mut [u8]) -> ListingReply
     ensures { λ r. ⌜ ListingIn (λ a. Lists (desk .shelf) (desk .lesson) (now (buffer .entry)) a (now (buffer .exit))) r ⌝ }
 {
-    let answer = lesson::listing(desk.shelf, desk.lesson, buffer);
-    ListingReply {
-        number: listing_number(answer),
-        length: listing_length(answer),
-    }
+    listing_reply(lesson::listing(desk.shelf, desk.lesson, buffer))
 }
 
 // ---- preview
@@ -398,11 +385,7 @@ pub extern "C" fn mezhkura_listing(desk: Desk, buffer: &mut [u8]) -> ListingRepl
 fn previewed(desk: Desk, change: Change, buffer: &mut [u8]) -> ListingReply
     ensures { λ r. ⌜ ListingIn (λ a. Previews (desk .shelf) (desk .lesson) change (now (buffer .entry)) a (now (buffer .exit))) r ⌝ }
 {
-    let answer = lesson::preview(desk.shelf, desk.lesson, change, buffer);
-    ListingReply {
-        number: listing_number(answer),
-        length: listing_length(answer),
-    }
+    listing_reply(lesson::preview(desk.shelf, desk.lesson, change, buffer))
 }
 
 #[no_mangle]
