@@ -2,7 +2,7 @@
 //! (document 02, A.14).
 
 use crate::answer::{Model, Refused, Verdict};
-use crate::compare::{explain_by, second_after, Calls};
+use crate::compare::{look_after, Calls};
 use crate::gen::Call;
 use crate::second::{answer_sets, Program};
 use std::collections::BTreeSet;
@@ -38,20 +38,10 @@ impl AddAssign for Accord {
 /// list leaves against all answer sets. Where they aren't in accord, a short list of calls that shows it,
 /// ready to print.
 pub fn accords<D: Calls>(calls: &[Call], fresh: impl Fn() -> D) -> Result<Accord, String> {
-    let looked = |calls: &[Call]| accord_after(calls, &mut fresh());
-    let differs = |calls: &[Call]| {
-        let difference = looked(calls).err()?;
-        Some((calls.len() - 1, difference))
-    };
-    looked(calls).map_err(|_| explain_by(calls.to_vec(), differs))
-}
-
-fn accord_after<D: Calls>(calls: &[Call], desk: &mut D) -> Result<Accord, String> {
-    let second = second_after(calls, desk);
-    match second.book() {
+    look_after(calls, &fresh, |second, desk| match second.book() {
         Some(book) => accord(&Program::new(book, second.facts()), desk),
         None => Ok(Accord::default()),
-    }
+    })
 }
 
 /// What a desk with this program says, or what of it isn't in accord with the program's answer sets.

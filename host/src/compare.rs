@@ -84,13 +84,25 @@ pub fn answers_agree<D: Calls>(calls: &[Call], fresh: impl Fn() -> D) -> Result<
     }
 }
 
-/// The second implementation's desk after a list of calls, which are made on another desk as well.
-pub(crate) fn second_after(calls: &[Call], other: &mut dyn Calls) -> Desk {
-    let mut second = Desk::fresh();
-    for call in calls {
-        both_answers(call, &mut second, other);
-    }
-    second
+/// What a look at both desks says after the calls of a list, or a short list after which it finds a
+/// difference, ready to print.
+pub(crate) fn look_after<D: Calls, T>(
+    calls: &[Call],
+    fresh: &impl Fn() -> D,
+    look: impl Fn(&Desk, &D) -> Result<T, String>,
+) -> Result<T, String> {
+    let looked = |calls: &[Call]| {
+        let (mut second, mut other) = (Desk::fresh(), fresh());
+        for call in calls {
+            both_answers(call, &mut second, &mut other);
+        }
+        look(&second, &other)
+    };
+    let differs = |calls: &[Call]| {
+        let last = calls.len().checked_sub(1)?;
+        Some((last, looked(calls).err()?))
+    };
+    looked(calls).map_err(|_| explain_by(calls.to_vec(), differs))
 }
 
 /// The place of the first call of a list whose answers differ, with the answers, or nothing.
@@ -119,10 +131,7 @@ pub fn explain<D: Calls>(calls: Vec<Call>, fresh: impl Fn() -> D) -> String {
 }
 
 /// The same, where `differs` finds the place of a call and says what is different there.
-pub(crate) fn explain_by(
-    calls: Vec<Call>,
-    differs: impl Fn(&[Call]) -> Option<(usize, String)>,
-) -> String {
+fn explain_by(calls: Vec<Call>, differs: impl Fn(&[Call]) -> Option<(usize, String)>) -> String {
     let short = shortest_calls(calls, &mut |calls| differs(calls).is_some());
     let (place, difference) = differs(&short).expect("the short list shows it too");
     let calls: String = short.iter().map(|call| format!("  {call:?}\n")).collect();

@@ -3,7 +3,7 @@
 //! A.7).
 
 use crate::answer::{Refused, Verdict};
-use crate::compare::{explain_by, second_after, Calls};
+use crate::compare::{look_after, Calls};
 use crate::gen::{self, Call, Random};
 use crate::second::{least_model, partial_stable_models, Book, Desk, Program, Rule};
 use std::collections::BTreeSet;
@@ -102,24 +102,6 @@ pub fn verdicts_are_unaltered<D: Calls>(
         }
         Ok(looked)
     })
-}
-
-/// What a look at the desks says after the calls of a list, or a short list after which it says a difference.
-fn look_after<D: Calls>(
-    calls: &[Call],
-    fresh: &impl Fn() -> D,
-    look: impl Fn(&Desk, &D) -> Result<Looked, String>,
-) -> Result<Looked, String> {
-    let looked = |calls: &[Call]| {
-        let mut desk = fresh();
-        let second = second_after(calls, &mut desk);
-        look(&second, &desk)
-    };
-    let differs = |calls: &[Call]| {
-        let difference = looked(calls).err()?;
-        Some((calls.len() - 1, difference))
-    };
-    looked(calls).map_err(|_| explain_by(calls.to_vec(), differs))
 }
 
 /// The names that a name reaches: the least set that has the name itself, and with each name also those in
