@@ -23,6 +23,11 @@
  * mezhkura_size takes no desk. It says how many names, rules and body literals a file fills, and refuses exactly the
  * files that a load refuses, with the same number and line.
  *
+ * mezhkura_preview_put_in and mezhkura_preview_take_out write the listing that would follow if the literal were put in or
+ * taken out. They answer and write what the change on a copy of the desk and the listing of that copy give: 20, 21, then 22
+ * (put in) or 23 (take out), then 25 where the buffer is shorter than the listing that would follow. The desk is not
+ * changed. No preview is longer than the longest listing.
+ *
  * mezhkura_working_order gives the names of the book in the order in which they can be settled. A name reaches itself
  * and every name in the bodies of the rules for either of its literals, and so on from there. Names that reach each
  * other form a group; a name alone is a group too. Whatever else a group reaches comes earlier, and of the groups that
@@ -146,6 +151,7 @@ typedef struct {
     size_t rounds;
 } mezhkura_model_reply;
 
+/* length: that of the listing which was written, 0 where the call is turned down. */
 typedef struct {
     uint8_t number;
     size_t length;
@@ -185,6 +191,8 @@ mezhkura_verdict_reply mezhkura_verdict(mezhkura_desk desk, size_t literal);
 mezhkura_search_reply mezhkura_search(mezhkura_desk desk, size_t literal, uint8_t is_default, uint8_t tree);
 mezhkura_model_reply mezhkura_model(mezhkura_desk desk);
 mezhkura_listing_reply mezhkura_listing(mezhkura_desk desk, uint8_t *buffer, size_t buffer_len);
+mezhkura_listing_reply mezhkura_preview_put_in(mezhkura_desk desk, size_t literal, uint8_t *buffer, size_t buffer_len);
+mezhkura_listing_reply mezhkura_preview_take_out(mezhkura_desk desk, size_t literal, uint8_t *buffer, size_t buffer_len);
 mezhkura_order_reply mezhkura_working_order(mezhkura_desk desk);
 mezhkura_groups_reply mezhkura_model_by_groups(mezhkura_desk desk);
 

@@ -25,6 +25,28 @@ impl Verdict {
     }
 }
 
+/// A change of the facts of a lesson.
+#[derive(Clone, Copy, Debug, PartialEq, Eq)]
+pub enum Change {
+    /// A literal is put in as a fact.
+    PutIn,
+    /// A fact is taken out.
+    TakeOut,
+}
+
+impl Change {
+    pub const BOTH: [Change; 2] = [Change::PutIn, Change::TakeOut];
+}
+
+impl fmt::Display for Change {
+    fn fmt(&self, f: &mut fmt::Formatter<'_>) -> fmt::Result {
+        f.write_str(match self {
+            Change::PutIn => "put in",
+            Change::TakeOut => "take out",
+        })
+    }
+}
+
 /// The kind of tree that a search walks.
 #[derive(Clone, Copy, Debug, PartialEq, Eq)]
 pub enum Tree {
@@ -270,7 +292,7 @@ pub enum Refused {
     NotPutIn,
     /// 24: the literal's name, or a name that it reaches, has both literals in M.
     Contradictory,
-    /// 25: the lent buffer is shorter than the listing.
+    /// 25: the lent buffer is shorter than the listing, or than the one that a preview would write.
     BufferTooShort,
 }
 

@@ -3,7 +3,8 @@
 //! every call whether the model is that of the book and the facts, whatever came before.
 
 use crate::answer::{
-    BookSize, Model, ModelByGroups, Question, Refused, Tree, Verdict, WorkingOrder, MOST_LISTING,
+    BookSize, Change, Model, ModelByGroups, Question, Refused, Tree, Verdict, WorkingOrder,
+    MOST_LISTING,
 };
 use crate::gen::Call;
 use crate::second::{self, Desk, Program};
@@ -23,9 +24,18 @@ pub trait Calls {
     fn search(&self, question: Question) -> Result<bool, Refused>;
     fn model(&self) -> Result<Model, Refused>;
     fn listing(&self, buffer: &mut [u8]) -> Result<usize, Refused>;
+    /// The listing that would follow a change of the facts. It leaves the desk, and the comparison looks whether
+    /// that is so: a desk is free to change here.
+    fn preview(
+        &mut self,
+        change: Change,
+        literal: usize,
+        buffer: &mut [u8],
+    ) -> Result<usize, Refused>;
     fn working_order(&self) -> Result<WorkingOrder, Refused>;
     fn model_by_groups(&self) -> Result<ModelByGroups, Refused>;
-    /// All that the desk holds, as bytes in whatever form: a refused call leaves every one of them.
+    /// All that the desk holds, as bytes in whatever form: a refused call leaves every one of them, and so does
+    /// one that changes neither book nor facts.
     fn state(&self) -> Vec<u8>;
 }
 
@@ -34,7 +44,7 @@ pub trait Calls {
 pub const MOST_VISITS: u64 = 1_000;
 
 /// What a buffer holds before it is lent: no byte of a listing.
-const UNTOUCHED: u8 = 0xA5;
+pub(crate) const UNTOUCHED: u8 = 0xA5;
 
 /// How much was asked of the books that lists of calls left.
 #[derive(Clone, Copy, Debug, Default, PartialEq, Eq)]
@@ -237,11 +247,12 @@ fn told<T: fmt::Debug>(answer: Result<T, Refused>) -> Told {
     }
 }
 
-/// What both desks answer to a call. A desk that changes by a refused call tells that too.
+/// What both desks answer to a call. A desk that changes by a refused call, or by one that changes neither
+/// book nor facts, tells that too.
 fn both(call: &Call, second: &mut Desk, other: &mut dyn Calls) -> (Told, Told) {
     let before = other.state();
     let (ours, mut theirs) = both_answers(call, second, other);
-    if theirs.refused && other.state() != before {
+    if (theirs.refused || !call.is_a_change()) && other.state() != before {
         theirs.text += ", and the desk changed";
     }
     (ours, theirs)
@@ -256,6 +267,11 @@ fn both_answers(call: &Call, second: &mut Desk, other: &mut dyn Calls) -> (Told,
         Call::Search(q) => (second_search(*q, second), told(other.search(*q))),
         Call::Model => (told(second.model()), told(other.model())),
         Call::Listing { margin } => both_listings(*margin, second, other),
+        Call::Preview {
+            change,
+            literal,
+            margin,
+        } => both_previews(*change, *literal, *margin, second, other),
         Call::WorkingOrder => (told(second.working_order()), told(other.working_order())),
         Call::ModelByGroups => (second_by_groups(second), told(other.model_by_groups())),
     }
@@ -300,29 +316,57 @@ fn second_by_groups(second: &Desk) -> Told {
     }
 }
 
-/// Both listings, with every byte of the lent buffers.
 fn both_listings(margin: isize, second: &Desk, other: &dyn Calls) -> (Told, Told) {
-    let due = second.listing(&mut [0; MOST_LISTING]).unwrap_or(40);
-    let length = due.saturating_add_signed(margin);
-    let mut ours = vec![UNTOUCHED; length];
-    let mut theirs = vec![UNTOUCHED; length];
-    let mut our_answer = told(second.listing(&mut ours));
-    let mut their_answer = told(other.listing(&mut theirs));
-    our_answer.text += &format!(" \"{}\"", ours.escape_ascii());
-    their_answer.text += &format!(" \"{}\"", theirs.escape_ascii());
-    (our_answer, their_answer)
+    let due = second.listing(&mut [0; MOST_LISTING]);
+    let length = lent(due, margin);
+    (
+        told_with_buffer(length, |buffer| second.listing(buffer)),
+        told_with_buffer(length, |buffer| other.listing(buffer)),
+    )
 }
 
-/// What was asked after a list (model, listing, working order, model by groups, every literal's verdict, and
-/// its four searches against M and N), or a call that is answered differently.
+fn both_previews(
+    change: Change,
+    literal: usize,
+    margin: isize,
+    second: &Desk,
+    other: &mut dyn Calls,
+) -> (Told, Told) {
+    let due = second.preview(change, literal, &mut [0; MOST_LISTING]);
+    let length = lent(due, margin);
+    (
+        told_with_buffer(length, |buffer| second.preview(change, literal, buffer)),
+        told_with_buffer(length, |buffer| other.preview(change, literal, buffer)),
+    )
+}
+
+/// The length of a buffer by the length of the listing that is due, and that of some buffer where none is.
+fn lent(due: Result<usize, Refused>, margin: isize) -> usize {
+    due.unwrap_or(40).saturating_add_signed(margin)
+}
+
+/// What a desk answers, with every byte of a buffer that is lent to it.
+fn told_with_buffer(
+    length: usize,
+    write: impl FnOnce(&mut [u8]) -> Result<usize, Refused>,
+) -> Told {
+    let mut buffer = vec![UNTOUCHED; length];
+    let mut answer = told(write(&mut buffer));
+    answer.text += &format!(" \"{}\"", buffer.escape_ascii());
+    answer
+}
+
+/// What was asked after a list (model, listing, working order, model by groups, two previews, every literal's
+/// verdict, and its four searches against M and N), or a call that is answered differently.
 fn agree_at_the_end(second: &Desk, other: &mut dyn Calls) -> Result<Asked, Call> {
     let mut copy = second.clone();
-    for call in [
+    let calls = [
         Call::Model,
         Call::Listing { margin: 3 },
         Call::WorkingOrder,
         Call::ModelByGroups,
-    ] {
+    ];
+    for call in calls.into_iter().chain(previews_at_the_end(second)) {
         let (ours, theirs) = both(&call, &mut copy, other);
         if ours != theirs {
             return Err(call);
@@ -343,6 +387,21 @@ fn agree_at_the_end(second: &Desk, other: &mut dyn Calls) -> Result<Asked, Call>
         asked.walked += usize::from(walk.is_some());
     }
     Ok(asked)
+}
+
+/// Previews that are accepted: the last literal that isn't put in is put in, and the last fact is taken out.
+fn previews_at_the_end(second: &Desk) -> impl Iterator<Item = Call> {
+    let facts = second.facts();
+    let literals = second.book().map_or(0, |book| book.literals());
+    let out = (0..literals).rfind(|literal| !facts.contains(literal));
+    let put_in = out.map(|literal| (Change::PutIn, literal));
+    let take_out = facts.last().map(|&fact| (Change::TakeOut, fact));
+    let both = [put_in, take_out].into_iter().flatten();
+    both.map(|(change, literal)| Call::Preview {
+        change,
+        literal,
+        margin: 3,
+    })
 }
 
 /// Every literal's verdict after a list, or one that is answered differently.

@@ -28,6 +28,14 @@
 //! assert_eq!(desk.working_order()?.groups, [[0], [1]]);
 //! assert_eq!(desk.model_by_groups()?.truths, desk.model()?.truths);
 //!
+//! // Before a sensor is overridden: what would be listed with `brake_held` taken out, and what with its contrary
+//! // put in. The lesson is as before.
+//! let length = desk.preview_take_out(0, &mut buffer)?;
+//! assert_eq!(&buffer[..length], b"model,2,1,0,0\n0,brake_held,false,false\n1,may_park,false,false\n");
+//! desk.preview_put_in(1, &mut buffer)?;
+//! assert!(buffer.starts_with(b"contradiction,2,1,2,1,brake_held\n"));
+//! assert_eq!(desk.verdict(2)?, Verdict::True);
+//!
 //! // `brake_held` is shown and shown not to be. `may_park` depends on it, and neither has a verdict.
 //! desk.put_in(1)?;
 //! assert!(desk.model()?.contradictory);
@@ -36,7 +44,7 @@
 //! ```
 
 use crate::answer::{
-    BookSize, Model, ModelByGroups, Question, Refused, Tree, Verdict, WorkingOrder,
+    BookSize, Change, Model, ModelByGroups, Question, Refused, Tree, Verdict, WorkingOrder,
 };
 use crate::compare::Calls;
 use crate::exports;
@@ -63,7 +71,8 @@ pub fn size(file: &[u8]) -> Result<BookSize, Refused> {
 ///
 /// The lesson is the facts put in, with M, N and the rounds of the book and these facts, and the literals whose
 /// verdicts are refused by 24. A load and a change of the facts work them out; a verdict, the model call and a
-/// listing read them. A call that is turned down leaves the desk, and every byte of a lent buffer, as it was.
+/// listing read them. A preview works out those that a change would leave, and leaves the lesson. A call that is
+/// turned down leaves the desk, and every byte of a lent buffer, as it was.
 #[derive(Clone, PartialEq, Eq)]
 pub struct Desk(Box<exports::Desk>);
 
@@ -140,10 +149,25 @@ impl Desk {
     ///
     /// Refused with 20, or with 25 where the buffer is shorter than the listing.
     pub fn listing(&self, buffer: &mut [u8]) -> Result<usize, Refused> {
-        let reply =
-            unsafe { exports::mezhkura_listing(*self.0, buffer.as_mut_ptr(), buffer.len()) };
-        accepted(reply.number, 0)?;
-        Ok(reply.length)
+        let (start, length) = (buffer.as_mut_ptr(), buffer.len());
+        length_of(unsafe { exports::mezhkura_listing(*self.0, start, length) })
+    }
+
+    /// Writes the listing that would follow if a literal were put in, as [`Desk::listing`] writes it. The desk
+    /// keeps its facts, and what is answered and written is what a put-in and a listing give on a copy.
+    ///
+    /// Refused with 20, 21 or 22, or with 25 where the buffer is shorter than the listing that would follow.
+    pub fn preview_put_in(&self, literal: usize, buffer: &mut [u8]) -> Result<usize, Refused> {
+        let (start, length) = (buffer.as_mut_ptr(), buffer.len());
+        length_of(unsafe { exports::mezhkura_preview_put_in(*self.0, literal, start, length) })
+    }
+
+    /// The same if a fact were taken out.
+    ///
+    /// Refused with 20, 21 or 23, or with 25 where the buffer is shorter than the listing that would follow.
+    pub fn preview_take_out(&self, literal: usize, buffer: &mut [u8]) -> Result<usize, Refused> {
+        let (start, length) = (buffer.as_mut_ptr(), buffer.len());
+        length_of(unsafe { exports::mezhkura_preview_take_out(*self.0, literal, start, length) })
     }
 
     /// The names of the book in the order in which they can be settled. Facts don't change it. Refused
@@ -190,6 +214,12 @@ fn accepted(number: u8, line: usize) -> Result<(), Refused> {
     }
     let refused = Refused::from_number(number, line);
     Err(refused.unwrap_or_else(|| panic!("the engine has no refusal {number}")))
+}
+
+/// The length of a listing that was written.
+fn length_of(reply: exports::ListingReply) -> Result<usize, Refused> {
+    accepted(reply.number, 0)?;
+    Ok(reply.length)
 }
 
 fn members(set: exports::LitSet) -> BTreeSet<usize> {
@@ -247,6 +277,18 @@ impl Calls for Desk {
 
     fn listing(&self, buffer: &mut [u8]) -> Result<usize, Refused> {
         Desk::listing(self, buffer)
+    }
+
+    fn preview(
+        &mut self,
+        change: Change,
+        literal: usize,
+        buffer: &mut [u8],
+    ) -> Result<usize, Refused> {
+        match change {
+            Change::PutIn => self.preview_put_in(literal, buffer),
+            Change::TakeOut => self.preview_take_out(literal, buffer),
+        }
     }
 
     fn working_order(&self) -> Result<WorkingOrder, Refused> {
@@ -391,5 +433,37 @@ mod tests {
         assert_eq!(desk.take_out(0), Ok(()));
         assert_eq!(desk.take_out(1), Ok(()));
         assert_eq!(desk.state(), loaded);
+    }
+
+    /// A preview works out the sets and the number that would stand. It reads none of those that stand, and
+    /// leaves them.
+    #[test]
+    fn previews_are_of_what_would_stand() {
+        let mut desk = Desk::fresh();
+        desk.load(b"name,a\nend\n").expect("the book loads");
+        let marks = &mut desk.0.lesson.marks;
+        marks.model.truths.words[0] = 3;
+        marks.model.rounds = 300;
+        marks.contradictory.words[0] = 1;
+        let written = desk.state();
+        let mut buffer = [7; 29];
+        assert_eq!(desk.preview_put_in(0, &mut buffer), Ok(29));
+        assert_eq!(&buffer, b"model,1,0,1,1\n0,a,true,false\n");
+        assert_eq!(desk.state(), written);
+        assert_eq!(
+            desk.preview_take_out(0, &mut buffer),
+            Err(Refused::NotPutIn)
+        );
+        assert_eq!(&buffer, b"model,1,0,1,1\n0,a,true,false\n");
+        desk.0.lesson.facts.words[0] = 1;
+        let written = desk.state();
+        let mut buffer = [7; 31];
+        assert_eq!(desk.preview_put_in(0, &mut buffer), Err(Refused::PutInNow));
+        assert_eq!(buffer, [7; 31]);
+        assert_eq!(desk.preview_take_out(0, &mut buffer), Ok(30));
+        assert_eq!(&buffer, b"model,1,0,0,0\n0,a,false,false\n\x07");
+        assert_eq!(desk.state(), written);
+        let listing = "contradiction,1,0,1,300,a\n0,a,contradictory,true\n";
+        assert_eq!(listed(&desk), listing);
     }
 }

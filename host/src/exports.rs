@@ -125,7 +125,7 @@ pub struct ModelReply {
     pub rounds: usize,
 }
 
-/// The reply to a listing.
+/// The reply to a listing, and to a preview of one.
 #[repr(C)]
 pub struct ListingReply {
     pub number: u8,
@@ -195,6 +195,18 @@ extern "C" {
     pub fn mezhkura_search(desk: Desk, literal: usize, default: u8, tree: u8) -> SearchReply;
     pub fn mezhkura_model(desk: Desk) -> ModelReply;
     pub fn mezhkura_listing(desk: Desk, buffer: *mut u8, buffer_len: usize) -> ListingReply;
+    pub fn mezhkura_preview_put_in(
+        desk: Desk,
+        literal: usize,
+        buffer: *mut u8,
+        buffer_len: usize,
+    ) -> ListingReply;
+    pub fn mezhkura_preview_take_out(
+        desk: Desk,
+        literal: usize,
+        buffer: *mut u8,
+        buffer_len: usize,
+    ) -> ListingReply;
     pub fn mezhkura_working_order(desk: Desk) -> OrderReply;
     pub fn mezhkura_model_by_groups(desk: Desk) -> GroupsReply;
 }

@@ -1,6 +1,6 @@
 //! Books, files and lists of calls from a seed. The same seed gives the same values everywhere.
 
-use crate::answer::{Question, Tree};
+use crate::answer::{Change, Question, Tree};
 use crate::second::{complement, Book, Entry, Rule};
 use crate::second::{MOST_BODY_LITERALS, MOST_IN_A_BODY, MOST_NAMES, MOST_RULES};
 use std::fmt;
@@ -989,8 +989,22 @@ pub enum Call {
     Listing {
         margin: isize,
     },
+    /// A preview of a change into a buffer that is this many bytes longer (or shorter) than the listing that
+    /// would follow.
+    Preview {
+        change: Change,
+        literal: usize,
+        margin: isize,
+    },
     WorkingOrder,
     ModelByGroups,
+}
+
+impl Call {
+    /// Whether the call changes the book or the facts where it isn't refused.
+    pub fn is_a_change(&self) -> bool {
+        matches!(self, Call::Load(_) | Call::PutIn(_) | Call::TakeOut(_))
+    }
 }
 
 impl fmt::Debug for Call {
@@ -1006,6 +1020,11 @@ impl fmt::Debug for Call {
             }
             Call::Model => write!(f, "model"),
             Call::Listing { margin } => write!(f, "listing, buffer longer by {margin}"),
+            Call::Preview {
+                change,
+                literal,
+                margin,
+            } => write!(f, "preview: {change} {literal}, buffer longer by {margin}"),
             Call::WorkingOrder => write!(f, "working order"),
             Call::ModelByGroups => write!(f, "model by groups"),
         }
@@ -1037,8 +1056,8 @@ pub fn calls_on_circles(random: &mut Random) -> Vec<Call> {
 }
 
 /// A load of a book with at most so many names, most of which reach few others, and facts put in, most often
-/// both literals of a name among them. Some facts are taken out again. Before and after that some verdicts and
-/// a listing are asked.
+/// both literals of a name among them. Some facts are taken out again. Before and after that some verdicts, some
+/// previews and a listing are asked.
 pub fn calls_on_clashes(random: &mut Random, most_names: usize) -> Vec<Call> {
     let names = random.between(2, most_names);
     let book = book_of_few_reached(random, names);
@@ -1052,6 +1071,9 @@ pub fn calls_on_clashes(random: &mut Random, most_names: usize) -> Vec<Call> {
     }
     let mut calls = vec![Call::Load(written(random, &book))];
     for (place, &fact) in facts.iter().enumerate() {
+        if random.chance(1, 4) {
+            calls.push(preview(random, fact));
+        }
         calls.push(Call::PutIn(fact));
         calls.push(Call::Verdict(random.below(2 * names)));
         if random.chance(1, 8) {
@@ -1061,11 +1083,16 @@ pub fn calls_on_clashes(random: &mut Random, most_names: usize) -> Vec<Call> {
     calls.push(Call::Listing {
         margin: random.pick(&[-1, 0, 5]),
     });
+    if !facts.is_empty() {
+        // Taken out, this fact may end the clash.
+        let fact = random.pick(&facts);
+        calls.push(preview(random, fact));
+    }
     calls
 }
 
 fn call(random: &mut Random, size: Size) -> Call {
-    match random.below(28) {
+    match random.below(32) {
         0 => Call::Load(file(random, size)),
         1..=7 => Call::PutIn(any_literal(random, size)),
         8..=12 => Call::TakeOut(any_literal(random, size)),
@@ -1078,9 +1105,27 @@ fn call(random: &mut Random, size: Size) -> Call {
         20..=21 => Call::Model,
         22..=23 => Call::WorkingOrder,
         24..=25 => Call::ModelByGroups,
-        _ => Call::Listing {
-            margin: random.pick(&[0, 0, 1, 7, -1, -1, -5, -10_000, 300]),
+        26..=27 => Call::Listing {
+            margin: margin(random),
         },
+        _ => {
+            let literal = any_literal(random, size);
+            preview(random, literal)
+        }
+    }
+}
+
+/// How much longer (or shorter) than a listing a buffer is.
+fn margin(random: &mut Random) -> isize {
+    random.pick(&[0, 0, 1, 7, -1, -1, -5, -10_000, 300])
+}
+
+/// A preview of a literal put in or taken out.
+fn preview(random: &mut Random, literal: usize) -> Call {
+    Call::Preview {
+        change: random.pick(&Change::BOTH),
+        literal,
+        margin: margin(random),
     }
 }
 

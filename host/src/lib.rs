@@ -6,6 +6,7 @@
 //! - [`shrink`] and [`compare`]: run a list of calls on two desks, and find a short list that
 //!   shows a difference.
 //! - [`accord`]: holds a desk against the answer sets of what a list of calls leaves.
+//! - [`previews`]: holds its previews against the change made on a copy and the listing of that.
 //! - [`published`]: holds its verdicts against the published definition, and against books with other rules for
 //!   names that aren't reached.
 //! - `engine`: the proved engine behind a safe type (feature `engine`).
@@ -18,6 +19,7 @@ pub mod engine;
 #[cfg(feature = "engine")]
 mod exports;
 pub mod gen;
+pub mod previews;
 pub mod published;
 pub mod second;
 pub mod shrink;

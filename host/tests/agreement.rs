@@ -1,16 +1,18 @@
 //! On random small books: the searches agree with M and N, M and N with the published notions and with
-//! the answer sets, verdicts with the published definition over the rules for reached names, the rounds are
-//! those of the definition, capitals make no other names, and the comparison of two desks finds wrong ones.
+//! the answer sets, verdicts with the published definition over the rules for reached names, previews with the
+//! change on a copy, the rounds are those of the definition, capitals make no other names, and the comparison of
+//! two desks finds wrong ones.
 
 mod families;
 mod wrong;
 
 use families::{header_of, known_rounds};
 use mezhkura::accord::{accords, Accord};
-use mezhkura::answer::{Question, Tree};
+use mezhkura::answer::{Change, Question, Tree};
 use mezhkura::compare::{agree, answer_by_model, explain, models_stand, questions};
 use mezhkura::compare::{Asked, Stood, MOST_VISITS};
 use mezhkura::gen::{self, Call, Random, Size, FULL, MIDDLE, SMALL};
+use mezhkura::previews::{previews_are_of_a_copy, Previewed};
 use mezhkura::published::{verdicts_are_published, verdicts_are_unaltered, Looked};
 use mezhkura::second::{contradictory_name, every_set, gamma, partial_stable_models};
 use mezhkura::second::{program_output, read, search};
@@ -18,7 +20,7 @@ use mezhkura::second::{Book, Desk, Program, Rule, Walk};
 use mezhkura::second::{MOST_BODY_LITERALS, MOST_NAMES};
 use std::collections::BTreeSet;
 use std::iter::successors;
-use wrong::{Astray, How, Wrong};
+use wrong::{Astray, How, Misshown, Wrong};
 
 /// The seed of the random books; another can be set by hand.
 fn seed() -> u64 {
@@ -411,7 +413,8 @@ fn desks_that_are_wrong_about_capitals_are_found() {
             "second says Err(File { fault: Fields",
         ),
         (How::ListsSmallLetters, "(listing, "),
-        (How::ListsTheLastSpelling, "(listing, "),
+        // A listing, or a preview of one.
+        (How::ListsTheLastSpelling, ", buffer longer by "),
     ] {
         let text = assert_found(how, random_lists(how, 2_000));
         assert!(text.contains(difference), "{how:?}: {text}");
@@ -471,6 +474,44 @@ fn desks_that_are_wrong_about_contradictions_are_found() {
         let text = assert_found(how, random_lists(how, 2_000));
         assert!(text.contains(call), "{how:?}: {text}");
         assert!(random_models(how, 100).is_ok(), "{how:?}");
+    }
+}
+
+/// Previews after so many lists that are the change and the listing on a copy, or a list that shows that one
+/// isn't.
+fn random_previews(how: How, lists: usize) -> Result<Previewed, String> {
+    let mut previewed = Previewed::default();
+    for calls in lists_with_clashes(seed() + 10, lists) {
+        previewed += previews_are_of_a_copy(&calls, || Wrong::fresh(how))?;
+    }
+    Ok(previewed)
+}
+
+/// Document 02, A.8. Each is shown by a preview of the change whose previews are wrong, and where the change
+/// isn't kept nothing else of the desk is wrong.
+#[test]
+fn desks_that_are_wrong_about_previews_are_found() {
+    let right = random_previews(How::NotAtAll, 300).unwrap_or_else(|text| panic!("{text}"));
+    println!("{right:?}");
+    assert!(right.clashing > 100 && right.mended > 100, "{right:?}");
+    for number in [0, 20, 21, 22, 23, 25] {
+        assert!(right.numbers[&number] > 20, "{number}: {right:?}");
+    }
+    for change in Change::BOTH {
+        for misshown in Misshown::ALL {
+            let how = How::Previews(change, misshown);
+            let text = assert_found(how, random_lists(how, 2_000));
+            assert!(text.contains(&format!("(preview: {change} ")), "{text}");
+            let text = assert_found(how, random_previews(how, 2_000));
+            assert!(
+                text.contains(&format!("the preview of {change} ")),
+                "{text}"
+            );
+            match misshown {
+                Misshown::KeepsTheChange => drop(assert_found(how, random_models(how, 2_000))),
+                _ => assert!(random_models(how, 100).is_ok(), "{how:?}"),
+            }
+        }
     }
 }
 

@@ -1,4 +1,4 @@
-//! The calls on one desk (document 01, "When a call is turned down by the state"; document 02, A.5 and A.7).
+//! The calls on one desk (document 01, "When a call is turned down by the state"; document 02, A.5, A.7 and A.8).
 
 use super::book::Book;
 use super::groups::{model_by_groups, reach, working_order};
@@ -7,7 +7,7 @@ use super::model::{contradictory_name, members, Program};
 use super::reader::read;
 use super::trees::search;
 use super::verdicts::verdict;
-use crate::answer::{Model, ModelByGroups, Question, Refused, Verdict, WorkingOrder};
+use crate::answer::{Change, Model, ModelByGroups, Question, Refused, Verdict, WorkingOrder};
 use std::collections::BTreeSet;
 
 /// A desk: a book, once one is loaded, and the facts put in. M and N don't stand here: each call that
@@ -57,6 +57,14 @@ impl Desk {
         Ok(())
     }
 
+    /// Puts in a literal or takes it out.
+    pub fn change(&mut self, change: Change, literal: usize) -> Result<(), Refused> {
+        match change {
+            Change::PutIn => self.put_in(literal),
+            Change::TakeOut => self.take_out(literal),
+        }
+    }
+
     pub fn verdict(&self, literal: usize) -> Result<Verdict, Refused> {
         let book = self.book_with(literal)?;
         let program = Program::new(book, &self.facts);
@@ -103,6 +111,18 @@ impl Desk {
             .ok_or(Refused::BufferTooShort)?;
         lent.copy_from_slice(text.as_bytes());
         Ok(text.len())
+    }
+
+    /// Makes the change on a copy and lists that.
+    pub fn preview(
+        &self,
+        change: Change,
+        literal: usize,
+        buffer: &mut [u8],
+    ) -> Result<usize, Refused> {
+        let mut copy = self.clone();
+        copy.change(change, literal)?;
+        copy.listing(buffer)
     }
 
     fn loaded(&self) -> Result<&Book, Refused> {

@@ -2,7 +2,8 @@
 
 use super::{first_and_rest, program_of, with_each_line};
 use mezhkura::answer::{
-    BookSize, Fault, Model, ModelByGroups, Question, Refused, Verdict, WorkingOrder, MOST_LISTING,
+    BookSize, Change, Fault, Model, ModelByGroups, Question, Refused, Verdict, WorkingOrder,
+    MOST_LISTING,
 };
 use mezhkura::compare::{answer_by_model, Calls, MOST_VISITS};
 use mezhkura::gen;
@@ -10,6 +11,7 @@ use mezhkura::second::{model_by_groups, reach, read, size, value, word, working_
 use mezhkura::second::{Book, Desk, Program, Rule};
 
 /// A desk that is the second implementation, but for one thing that it does wrong.
+#[derive(Clone)]
 pub struct Wrong {
     desk: Desk,
     how: How,
@@ -333,6 +335,79 @@ impl Astray {
     }
 }
 
+/// What is wrong in a preview.
+#[derive(Clone, Copy, Debug, PartialEq)]
+pub enum Misshown {
+    /// The lesson keeps the change.
+    KeepsTheChange,
+    /// The lesson is listed as it is.
+    ListsTheLesson,
+    /// The other change is shown.
+    ShowsTheOtherChange,
+    /// 25 is given before 22 and 23.
+    LooksAtTheBufferFirst,
+    /// Where 22 or 23 is due and the buffer is long, the lesson is listed as it is.
+    ListsWhereRefused,
+    /// The bytes behind the listing are cleared.
+    ClearsTheRest,
+    /// What fits is written into a short buffer.
+    WritesWhatFits,
+}
+
+impl Misshown {
+    pub const ALL: [Misshown; 7] = [
+        Misshown::KeepsTheChange,
+        Misshown::ListsTheLesson,
+        Misshown::ShowsTheOtherChange,
+        Misshown::LooksAtTheBufferFirst,
+        Misshown::ListsWhereRefused,
+        Misshown::ClearsTheRest,
+        Misshown::WritesWhatFits,
+    ];
+
+    /// The preview of a change on a desk.
+    fn preview(
+        self,
+        desk: &mut Desk,
+        change: Change,
+        literal: usize,
+        buffer: &mut [u8],
+    ) -> Result<usize, Refused> {
+        let mut whole = vec![0; MOST_LISTING];
+        let due = desk.preview(change, literal, &mut whole);
+        let is_refused = matches!(due, Err(Refused::PutInNow | Refused::NotPutIn));
+        match self {
+            Misshown::KeepsTheChange => {
+                let length = desk.preview(change, literal, buffer)?;
+                desk.change(change, literal)?;
+                return Ok(length);
+            }
+            Misshown::ListsTheLesson if due.is_ok() => return desk.listing(buffer),
+            Misshown::ListsWhereRefused if is_refused => return desk.listing(buffer).or(due),
+            Misshown::LooksAtTheBufferFirst if is_refused => {
+                desk.listing(&mut vec![0; buffer.len()])?;
+            }
+            Misshown::ShowsTheOtherChange => {
+                let other = match change {
+                    Change::PutIn => Change::TakeOut,
+                    Change::TakeOut => Change::PutIn,
+                };
+                return desk.preview(other, literal, buffer);
+            }
+            Misshown::ClearsTheRest => {
+                let length = desk.preview(change, literal, buffer)?;
+                buffer[length..].fill(0);
+            }
+            Misshown::WritesWhatFits => {
+                let fits = due?.min(buffer.len());
+                buffer[..fits].copy_from_slice(&whole[..fits]);
+            }
+            _ => {}
+        }
+        desk.preview(change, literal, buffer)
+    }
+}
+
 #[derive(Clone, Copy, Debug, PartialEq)]
 pub enum How {
     NotAtAll,
@@ -359,6 +434,7 @@ pub enum How {
     HeadsByTheFirstContradictoryLine,
     HeadsByTheHighestClash,
     NamesNoClash,
+    Previews(Change, Misshown),
     UndefinedIsTrue,
     UndefinedIsFalse,
     UndefinedIsAContradiction,
@@ -490,6 +566,20 @@ impl Calls for Wrong {
                 }
                 None => self.desk.listing(buffer),
             },
+        }
+    }
+
+    fn preview(
+        &mut self,
+        change: Change,
+        literal: usize,
+        buffer: &mut [u8],
+    ) -> Result<usize, Refused> {
+        match self.how {
+            How::Previews(wrong, misshown) if wrong == change => {
+                misshown.preview(&mut self.desk, change, literal, buffer)
+            }
+            _ => self.desk.preview(change, literal, buffer),
         }
     }
 
