@@ -1,11 +1,13 @@
 //! Desks of whatever bits. What they mean is read from their fields here, as
 //! `crates/book/specs/Book.antt` says it, and the working order and the model by groups are those of that
-//! meaning. Verdicts, the model call and the listing are those of the sets that stand.
+//! meaning. Verdicts, the model call and the listing are those of the sets that stand. A preview is the change and
+//! the listing on a copy.
 
 use super::{exports, members, Desk};
-use crate::answer::{Model, ModelByGroups, Refused, Verdict};
+use crate::answer::{Change, Model, ModelByGroups, Refused, Verdict};
 use crate::answer::{MOST_BODY_LITERALS, MOST_LISTING, MOST_NAMES, MOST_RULES};
 use crate::gen::{self, Random};
+use crate::previews::{previews_of, Previewed};
 use crate::second::{
     contradictory_name, model_by_groups, reach, read, verdict, word, working_order,
 };
@@ -459,4 +461,54 @@ fn a_change_of_whatever_bits_leaves_the_contradictory_literals() {
     }
     println!("{kinds:?}");
     assert!(kinds.none > 50 && kinds.some > 50, "{kinds:?}");
+}
+
+/// Literals around the edges of a book and of a set, one of the book, and ones that are another number where only
+/// their last bits are looked at.
+fn literals_to_preview(random: &mut Random, names: usize) -> [usize; 6] {
+    let own = random.below(2 * names);
+    let edge = random.pick(&[
+        2 * names,
+        2 * names + 1,
+        CAPACITY - 1,
+        CAPACITY,
+        CAPACITY + 1,
+    ]);
+    let far = random.pick(&[1 << 16, 1 << 32, 1 << 63, usize::MAX - CAPACITY + 1]);
+    [own, own ^ 1, edge, far, far | own, usize::MAX]
+}
+
+/// A preview into one byte is refused by some number, and its reply has length 0.
+fn check_refused_reply(desk: &Desk, literal: usize) {
+    for preview in [
+        exports::mezhkura_preview_put_in,
+        exports::mezhkura_preview_take_out,
+    ] {
+        let reply = unsafe { preview(*desk.0, literal, [0].as_mut_ptr(), 1) };
+        let refused = reply.number != exports::ACCEPTED && reply.length == 0;
+        assert!(refused, "{literal} of {}", meaning(&desk.0));
+    }
+}
+
+#[test]
+fn previews_are_settled_for_all_bits() {
+    let mut random = Random::new(16);
+    let mut previewed = Previewed::default();
+    for _ in 0..600 {
+        let bits = desk_of_bits(&mut random);
+        let desk = Desk(Box::new(with_other_sets(&mut random, bits)));
+        let names = names_of(&desk.0.shelf.book);
+        for literal in literals_to_preview(&mut random, names) {
+            check_refused_reply(&desk, literal);
+            for change in Change::BOTH {
+                let previews = previews_of(&desk, change, literal);
+                previewed += previews.unwrap_or_else(|text| panic!("{text}\n{}", meaning(&desk.0)));
+            }
+        }
+    }
+    println!("{previewed:?}");
+    assert!(previewed.clashing > 100 && previewed.mended > 100);
+    for number in [0, 20, 21, 22, 23, 25] {
+        assert!(previewed.numbers[&number] > 300, "{number}: {previewed:?}");
+    }
 }
