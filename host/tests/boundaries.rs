@@ -1,7 +1,7 @@
 //! The edges that document 01 names under "Run", every refusal number with its line, and what document 02
 //! adds to them.
 
-use mezhkura::answer::{Question, Refused, Tree, Verdict, MOST_LISTING};
+use mezhkura::answer::{Change, Question, Refused, Tree, Verdict, MOST_LISTING};
 use mezhkura::gen;
 use mezhkura::second::{program_output, read, size, Desk};
 
@@ -442,6 +442,12 @@ fn number_20_comes_before_21_and_25() {
     assert_eq!(fresh.working_order(), Err(Refused::NoBook));
     assert_eq!(fresh.model_by_groups(), Err(Refused::NoBook));
     assert_eq!(fresh.listing(&mut []), Err(Refused::NoBook));
+    for (change, literal) in [(Change::PutIn, 999), (Change::TakeOut, 0)] {
+        assert_eq!(
+            fresh.preview(change, literal, &mut []),
+            Err(Refused::NoBook)
+        );
+    }
     assert!(fresh.load(b"nonsense\n").is_err());
     assert_eq!(fresh, Desk::fresh());
 }
@@ -454,7 +460,10 @@ fn number_21_is_given_from_twice_the_names_on() {
         if names > 0 {
             assert_eq!(desk.verdict(edge - 1), Ok(Verdict::False));
             assert_eq!(desk.search(question(edge - 1), 10), Ok(Some(true)));
+            let mut buffer = [0; MOST_LISTING];
+            assert!(desk.preview(Change::PutIn, edge - 1, &mut buffer).is_ok());
             assert_eq!(desk.put_in(edge - 1), Ok(()));
+            assert!(desk.preview(Change::TakeOut, edge - 1, &mut buffer).is_ok());
             assert_eq!(desk.take_out(edge - 1), Ok(()));
         }
         for literal in [edge, edge + 1, usize::MAX] {
@@ -463,6 +472,11 @@ fn number_21_is_given_from_twice_the_names_on() {
             assert_eq!(desk.take_out(literal), Err(Refused::NoSuchLiteral));
             let asked = desk.search(question(literal), 10);
             assert_eq!(asked, Err(Refused::NoSuchLiteral));
+            // 21 comes before 22, 23 and 25.
+            for change in Change::BOTH {
+                let previewed = desk.preview(change, literal, &mut []);
+                assert_eq!(previewed, Err(Refused::NoSuchLiteral));
+            }
         }
     }
 }
@@ -521,6 +535,57 @@ fn number_25_is_given_to_a_buffer_one_byte_short() {
     }
 }
 
+/// The preview of a change, and a buffer of so many bytes 7 after it.
+fn previewed(
+    desk: &Desk,
+    change: Change,
+    literal: usize,
+    lent: usize,
+) -> (Result<usize, Refused>, Vec<u8>) {
+    let mut buffer = vec![7; lent];
+    let answer = desk.preview(change, literal, &mut buffer);
+    (answer, buffer)
+}
+
+/// Document 02, A.8: a refused change decides, whatever the buffer, and then the listing that would follow, which
+/// may be longer or shorter than the one as it is.
+#[test]
+fn numbers_22_and_23_come_before_25_in_a_preview() {
+    let mut desk = desk("name,a\nend\n");
+    let without = b"model,1,0,0,0\n0,a,false,false\n";
+    let with = b"model,1,0,1,1\n0,a,true,false\n";
+    for literal in [0, 1] {
+        for lent in [0, 29, 30, 99] {
+            let refused = (Err(Refused::NotPutIn), vec![7; lent]);
+            assert_eq!(previewed(&desk, Change::TakeOut, literal, lent), refused);
+        }
+    }
+    assert_preview(&desk, Change::PutIn, with);
+    assert_eq!(desk.facts().len(), 0);
+    assert_eq!(desk.put_in(0), Ok(()));
+    for lent in [0, 29, 30, 99] {
+        let refused = (Err(Refused::PutInNow), vec![7; lent]);
+        assert_eq!(previewed(&desk, Change::PutIn, 0, lent), refused);
+    }
+    assert_preview(&desk, Change::TakeOut, without);
+    assert_eq!(desk.facts().len(), 1);
+}
+
+/// A preview of literal 0 is refused by 25 up to one byte less than the listing that would follow, and is
+/// accepted from there on; the bytes behind the listing stay.
+fn assert_preview(desk: &Desk, change: Change, listing: &[u8]) {
+    let length = listing.len();
+    for lent in [0, 1, length - 1] {
+        let refused = (Err(Refused::BufferTooShort), vec![7; lent]);
+        assert_eq!(previewed(desk, change, 0, lent), refused);
+    }
+    for more in [0, 1, 99] {
+        let written = [listing, &vec![7; more]].concat();
+        let accepted = (Ok(length), written);
+        assert_eq!(previewed(desk, change, 0, length + more), accepted);
+    }
+}
+
 /// Document 02, A.7: 47 bytes for the header, and for each name its number, 16 bytes, twice `contradictory`
 /// and what stands between. The counts of the header can't have more digits: no book has more than 128
 /// names, 512 rules, 256 facts and 256 rounds.
@@ -546,6 +611,12 @@ fn the_longest_listing_has_6209_bytes() {
         assert_eq!(lines.next(), Some(line.as_str()));
     }
     assert_eq!(lines.next(), None);
+    // Document 02, A.8: such a buffer holds a preview too.
+    for (change, literal) in [(Change::TakeOut, 0), (Change::PutIn, 1)] {
+        let short = desk.preview(change, literal, &mut short);
+        assert_eq!(short, Err(Refused::BufferTooShort));
+        assert_eq!(desk.preview(change, literal, &mut buffer), Ok(MOST_LISTING));
+    }
 }
 
 #[test]

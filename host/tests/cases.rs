@@ -1,6 +1,6 @@
 //! The short books of document 01, its readings that lead astray, and short books with a clash.
 
-use mezhkura::answer::{Question, Refused, Tree, Verdict};
+use mezhkura::answer::{Change, Question, Refused, Tree, Verdict};
 use mezhkura::second::{gamma, program_output, read, Desk, Program};
 use std::collections::BTreeSet;
 use Verdict::{False, True, Undefined};
@@ -114,15 +114,36 @@ fn case_11_puts_in_a_fact_and_takes_it_out() {
     for literal in 0..4 {
         assert_eq!(desk.verdict(literal), Err(Refused::Contradictory));
     }
-    let mut buffer = [0; 100];
-    let length = desk
-        .listing(&mut buffer)
-        .expect("the buffer is long enough");
-    let expected = "contradiction,2,3,1,2,a\n0,a,contradictory,contradictory\n\
-        1,b,contradictory,contradictory\n";
-    assert_eq!(String::from_utf8_lossy(&buffer[..length]), expected);
+    assert_eq!(written(|buffer| desk.listing(buffer)), CASE_11);
     assert_eq!(desk.take_out(0), Ok(()));
     assert_eq!(verdicts(&desk), [False, True, True, False]);
+}
+
+/// The listing of case 11, in which `a` is put in.
+const CASE_11: &str = "contradiction,2,3,1,2,a\n0,a,contradictory,contradictory\n\
+    1,b,contradictory,contradictory\n";
+
+/// What a call writes into a buffer.
+fn written(call: impl FnOnce(&mut [u8]) -> Result<usize, Refused>) -> String {
+    let mut buffer = [0; 100];
+    let length = call(&mut buffer).expect("the buffer is long enough");
+    String::from_utf8_lossy(&buffer[..length]).into_owned()
+}
+
+/// Document 02, A.8. Before case 11 puts in its fact, a preview shows the contradiction; before the fact is taken
+/// out, a preview shows a model again.
+#[test]
+fn case_11_is_previewed() {
+    let mut desk = desk(CASE_5);
+    let before = written(|buffer| desk.listing(buffer));
+    assert_eq!(before, "model,2,3,0,2\n0,a,false,true\n1,b,true,false\n");
+    let put_in = written(|buffer| desk.preview(Change::PutIn, 0, buffer));
+    assert_eq!(put_in, CASE_11);
+    assert_eq!(written(|buffer| desk.listing(buffer)), before);
+    assert_eq!(desk.put_in(0), Ok(()));
+    let take_out = written(|buffer| desk.preview(Change::TakeOut, 0, buffer));
+    assert_eq!(take_out, before);
+    assert_eq!(written(|buffer| desk.listing(buffer)), CASE_11);
 }
 
 fn rounds(desk: &Desk) -> usize {

@@ -1,16 +1,18 @@
 //! The engine compared with the second implementation (feature `engine`). A list of calls ends with all
 //! verdicts and questions of the book that it leaves, or the model is looked at after each of its calls, or
-//! what it leaves is held against the answer sets, or against the published definition.
+//! what it leaves is held against the answer sets, or against the published definition. Its previews are held
+//! against the change and the listing on a copy.
 #![cfg(feature = "engine")]
 
 mod families;
 
 use families::{header_of, known_rounds};
 use mezhkura::accord::{accords, Accord};
-use mezhkura::answer::MOST_LISTING;
+use mezhkura::answer::{Change, MOST_LISTING};
 use mezhkura::compare::{agree, answers_agree, explain, models_stand, questions, Asked, Stood};
 use mezhkura::engine::Desk;
 use mezhkura::gen::{self, Call, Random, FULL, MIDDLE, SMALL};
+use mezhkura::previews::{previews_are_of_a_copy, Previewed};
 use mezhkura::published::{verdicts_are_published, verdicts_are_unaltered, Looked};
 use mezhkura::second::{read, Book};
 use std::fs;
@@ -48,14 +50,26 @@ fn load_and_look(file: Vec<u8>) -> Vec<Call> {
     calls
 }
 
-/// The calls that change nothing.
+/// The calls that change nothing. There are few previews, since listings of large books take the second
+/// implementation long.
 fn look(literals: &[usize]) -> Vec<Call> {
     let mut calls = vec![Call::Model, Call::WorkingOrder, Call::ModelByGroups];
     calls.extend([-1, 0, 9].map(|margin| Call::Listing { margin }));
+    let previews = literals.iter().step_by(4).zip([-1, 0]);
+    calls.extend(previews.flat_map(|(&literal, margin)| previews_into(literal, margin)));
     calls.extend(literals.iter().map(|&literal| Call::Verdict(literal)));
     let questions = literals.iter().flat_map(|&literal| questions(literal));
     calls.extend(questions.map(Call::Search));
     calls
+}
+
+/// The previews of both changes, into buffers with this margin.
+fn previews_into(literal: usize, margin: isize) -> [Call; 2] {
+    Change::BOTH.map(|change| Call::Preview {
+        change,
+        literal,
+        margin,
+    })
 }
 
 /// As [`load_and_look`], with facts of the book put in at the end.
@@ -65,6 +79,17 @@ fn with_facts(random: &mut Random, file: Vec<u8>) -> Vec<Call> {
     let mut calls = load_and_look(file);
     calls.extend(facts.into_iter().map(Call::PutIn));
     calls
+}
+
+/// A desk with this book and these facts.
+fn desk_with(book: &Book, facts: &[usize]) -> Desk {
+    let mut desk = Desk::fresh();
+    desk.load(book.to_file().as_bytes())
+        .expect("the book loads");
+    for &fact in facts {
+        desk.put_in(fact).expect("the fact is out");
+    }
+    desk
 }
 
 /// Compares books, each without facts and four times with facts.
@@ -127,12 +152,7 @@ fn full_books_with_clashes_agree() {
 
 /// Whether a book with these facts has names that are refused by 24 and names that aren't.
 fn is_in_part(book: &Book, facts: &[usize]) -> bool {
-    let mut desk = Desk::fresh();
-    desk.load(book.to_file().as_bytes())
-        .expect("the book loads");
-    for &fact in facts {
-        desk.put_in(fact).expect("the fact is out");
-    }
+    let desk = desk_with(book, facts);
     let refused = |name: usize| desk.verdict(2 * name).is_err();
     let names = 0..book.names.len();
     names.clone().any(refused) && !names.clone().all(refused)
@@ -291,16 +311,51 @@ fn small_books_in_groups_agree() {
 fn the_longest_listing_agrees() {
     let (book, facts) = gen::longest_listing();
     let mut calls = vec![Call::Load(book.to_file().into_bytes())];
-    calls.extend(facts.into_iter().map(Call::PutIn));
-    calls.extend([-1, 0, 1].map(|margin| Call::Listing { margin }));
-    answers_agree(&calls, Desk::fresh).unwrap_or_else(|text| panic!("{text}"));
-    let mut desk = Desk::fresh();
-    desk.load(book.to_file().as_bytes())
-        .expect("the book loads");
-    for fact in gen::longest_listing().1 {
-        desk.put_in(fact).expect("the fact is out");
+    calls.extend(facts.iter().copied().map(Call::PutIn));
+    for margin in [-1, 0, 1] {
+        calls.push(Call::Listing { margin });
+        calls.extend(previews_into(0, margin));
     }
+    answers_agree(&calls, Desk::fresh).unwrap_or_else(|text| panic!("{text}"));
+    let desk = desk_with(&book, &facts);
     assert_eq!(desk.listing(&mut [0; MOST_LISTING]), Ok(MOST_LISTING));
+}
+
+/// Document 02, A.8: a buffer for the longest listing holds every preview of that lesson too. The engine alone is
+/// asked for all of them, since the second implementation takes long.
+#[test]
+fn the_longest_listing_has_room_for_every_preview() {
+    let (book, facts) = gen::longest_listing();
+    let desk = desk_with(&book, &facts);
+    let (mut buffer, mut longest) = ([0; MOST_LISTING], 0);
+    for name in 0..book.names.len() {
+        for previewed in [
+            desk.preview_take_out(2 * name, &mut buffer),
+            desk.preview_put_in(2 * name + 1, &mut buffer),
+        ] {
+            longest = longest.max(previewed.expect("the buffer is long"));
+        }
+    }
+    assert_eq!(longest, MOST_LISTING);
+}
+
+/// Document 02, A.8: a preview is the change and the listing on a copy, byte by byte, and leaves the desk.
+#[test]
+fn previews_are_those_of_a_copy() {
+    let mut random = Random::new(seed() + 15);
+    let mut lists = Vec::from_iter((0..1_000).map(|_| gen::calls(&mut random, SMALL)));
+    lists.extend((0..300).map(|_| gen::calls_on_clashes(&mut random, 12)));
+    lists.extend((0..10).map(|_| gen::calls(&mut random, FULL)));
+    let mut previewed = Previewed::default();
+    for calls in lists {
+        let more = previews_are_of_a_copy(&calls, Desk::fresh);
+        previewed += more.unwrap_or_else(|text| panic!("{text}"));
+    }
+    println!("{previewed:?}");
+    assert!(previewed.clashing > 500 && previewed.mended > 500);
+    for number in [0, 20, 21, 22, 23, 25] {
+        assert!(previewed.numbers[&number] > 1_000, "{number}");
+    }
 }
 
 /// M lies inside every answer set and that inside N; true is in all of them, false in none.
