@@ -72,6 +72,10 @@ fn a_c_program_works_on_a_desk() {
     let clash = "1 15: 24 0 24 0 0 0\ncontradiction,3,1,2,2,a\n0,a,contradictory,contradictory\n\
         1,b,contradictory,contradictory\n2,c,false,false\n\
         1 16: 0 1 0 1 24 0\n0 0: 0 1 0 0 0 0\n";
+    // Where a preview is refused, the buffer has the byte 7 that stood there, and so has the byte behind a listing.
+    let previews = "20 0 7\n21 0 7\n22 0 7\n23 0 7\n25 0 7\n\
+        0 56 7\ncontradiction,1,0,2,1,a\n0,a,contradictory,contradictory\n\
+        25 0 7\n0 30 7\nmodel,1,0,0,0\n0,a,false,false\nmodel,1,0,1,1\n0,a,true,false\n";
     let printed = String::from_utf8_lossy(&run.stdout);
-    assert_eq!(printed, format!("{expected}{clash}"));
+    assert_eq!(printed, format!("{expected}{clash}{previews}"));
 }

@@ -1,7 +1,7 @@
 /* A desk in C: loads a book whose rule spells a name in other capitals, puts in a fact, asks for verdict, search and
  * model, and prints the listing; then loads a file of no bytes and prints its listing. Sizes the book, the file of no
- * bytes and one that is refused. Prints the working order and the model by groups of two books and of none, and a lesson
- * in which one name clashes. */
+ * bytes and one that is refused. Prints the working order and the model by groups of two books and of none, a lesson
+ * in which one name clashes, and previews. */
 #include "mezhkura.h"
 
 #include <stdio.h>
@@ -81,6 +81,35 @@ static void print_clash(void)
     print_verdicts(desk);
 }
 
+/* The number and the length of a preview, the byte of the buffer behind what was written, and what was written. */
+static void print_preview(mezhkura_listing_reply preview, const uint8_t *buffer)
+{
+    printf("%d %zu %d\n", preview.number, preview.length, buffer[preview.length]);
+    fwrite(buffer, 1, preview.length, stdout);
+}
+
+/* a is put in. Previews that are refused, with a long buffer and with one of no bytes; then those of -a put in and of a
+ * taken out, with a buffer that is one byte too short and with one that is long enough; then the listing, which has a. */
+static void print_previews(void)
+{
+    const char *file = "name,a\nend\n";
+    mezhkura_desk desk = mezhkura_load(mezhkura_fresh(), (const uint8_t *)file, strlen(file)).desk;
+    desk = mezhkura_put_in(desk, 0).desk;
+    uint8_t buffer[100];
+    memset(buffer, 7, sizeof buffer);
+    print_preview(mezhkura_preview_put_in(mezhkura_fresh(), 0, buffer, sizeof buffer), buffer);
+    print_preview(mezhkura_preview_put_in(desk, 2, buffer, 0), buffer);
+    print_preview(mezhkura_preview_put_in(desk, 0, buffer, 0), buffer);
+    print_preview(mezhkura_preview_take_out(desk, 1, buffer, sizeof buffer), buffer);
+    print_preview(mezhkura_preview_put_in(desk, 1, buffer, 55), buffer);
+    print_preview(mezhkura_preview_put_in(desk, 1, buffer, 56), buffer);
+    memset(buffer, 7, sizeof buffer);
+    print_preview(mezhkura_preview_take_out(desk, 0, buffer, 29), buffer);
+    print_preview(mezhkura_preview_take_out(desk, 0, buffer, sizeof buffer), buffer);
+    mezhkura_listing_reply listing = mezhkura_listing(desk, buffer, sizeof buffer);
+    fwrite(buffer, 1, listing.length, stdout);
+}
+
 int main(void)
 {
     const char *file = "name,Brake_Held\nname,may_park\nrule,may_park,BRAKE_HELD\nend\n";
@@ -128,5 +157,6 @@ int main(void)
     const char *circle = "name,a\nname,b\nname,c\nrule,a,b\nrule,b,~c\nrule,c,~b\nend\n";
     print_groups(mezhkura_load(written, (const uint8_t *)circle, strlen(circle)).desk);
     print_clash();
+    print_previews();
     return 0;
 }
