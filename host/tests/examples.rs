@@ -1,7 +1,7 @@
 //! The example books have the listings that stand beside them, and the books of the guide the listings,
-//! figures, answer sets and working orders below them.
+//! previews, figures, answer sets and working orders below them.
 
-use mezhkura::answer::MOST_LISTING;
+use mezhkura::answer::{Change, Refused, MOST_LISTING};
 use mezhkura::second::{answer_sets, program_output, read, size, Book, Desk, Program};
 use std::collections::{BTreeMap, BTreeSet};
 use std::fs;
@@ -71,13 +71,18 @@ fn desk_with(book: &[u8], facts: &str) -> Desk {
     let mut desk = Desk::fresh();
     desk.load(book).expect("the book loads");
     for fact in facts.lines() {
-        let name = fact.trim_start_matches('-');
-        let number = desk.book().and_then(|book| book.number_of(name));
-        let number = number.unwrap_or_else(|| panic!("{name} is declared"));
-        desk.put_in(2 * number + usize::from(fact.starts_with('-')))
+        desk.put_in(literal_of(&desk, fact))
             .expect("the fact is put in once");
     }
     desk
+}
+
+/// The number of a literal of a desk's book, spelt as in rules.
+fn literal_of(desk: &Desk, spelt: &str) -> usize {
+    let name = spelt.trim_start_matches('-');
+    let number = desk.book().and_then(|book| book.number_of(name));
+    let number = number.unwrap_or_else(|| panic!("{name} is declared"));
+    2 * number + usize::from(spelt.starts_with('-'))
 }
 
 /// The lines of an example's listing whose verdicts are refused by 24.
@@ -92,9 +97,21 @@ fn contradictory_lines(path: &str, facts: &str) -> String {
 /// The listing of a book after facts were put in.
 fn listing_with_facts(book: &[u8], facts: &str) -> String {
     let desk = desk_with(book, facts);
+    written(|buffer| desk.listing(buffer)).expect("the buffer is long")
+}
+
+/// What a call writes into a long buffer.
+fn written(call: impl FnOnce(&mut [u8]) -> Result<usize, Refused>) -> Result<String, Refused> {
     let mut buffer = vec![0; MOST_LISTING];
-    let length = desk.listing(&mut buffer).expect("the buffer is long");
-    String::from_utf8(buffer[..length].to_vec()).expect("a listing is ASCII")
+    let length = call(&mut buffer)?;
+    Ok(String::from_utf8(buffer[..length].to_vec()).expect("a listing is ASCII"))
+}
+
+/// The preview of a change of a literal, spelt as in rules, or the number and the words of its refusal.
+fn preview_of(desk: &Desk, change: Change, spelt: &str) -> String {
+    let literal = literal_of(desk, spelt);
+    written(|buffer| desk.preview(change, literal, buffer))
+        .unwrap_or_else(|refused| format!("{refused}\n"))
 }
 
 /// The names of a desk's book in working order, a line for each group.
@@ -136,7 +153,7 @@ fn set_line(book: &Book, set: &BTreeSet<usize>) -> String {
     format!("{{{}}}\n", members.join(", "))
 }
 
-/// What the blocks of a page say so far: a book, and facts for the next block that shows something.
+/// What the blocks of a page say so far: a book, and facts that stay until the next book.
 #[derive(Default)]
 struct Said {
     book: String,
@@ -147,22 +164,26 @@ impl Said {
     /// What kind of thing a block shows and what has to stand in it, or nothing where it says something.
     fn due(&mut self, block: &Block) -> Option<(&'static str, String)> {
         match block.kind.as_str() {
-            "book" => self.book = block.text.clone(),
+            "book" => self.begin(&block.text),
             "book without the last line end" => {
-                self.book = block.text.strip_suffix('\n').unwrap_or("").to_string();
+                self.begin(block.text.strip_suffix('\n').unwrap_or(""));
             }
             "put-in" => self.facts = block.text.clone(),
-            kind => {
-                let facts = std::mem::take(&mut self.facts);
-                return Some(self.shown(kind, &facts, block));
-            }
+            kind => return Some(self.shown(kind, block)),
         }
         None
     }
 
-    /// The same of a block that shows something, after these facts were put in.
-    fn shown(&self, kind: &str, facts: &str, block: &Block) -> (&'static str, String) {
-        let book = self.book.as_bytes();
+    /// A book without facts.
+    fn begin(&mut self, book: &str) {
+        self.book = book.to_string();
+        self.facts.clear();
+    }
+
+    /// The same of a block that shows something.
+    fn shown(&self, kind: &str, block: &Block) -> (&'static str, String) {
+        let (book, facts) = (self.book.as_bytes(), &self.facts);
+        let preview = |change, spelt| preview_of(&desk_with(book, facts), change, spelt);
         match kind {
             "listing" if facts.is_empty() => ("listing", program_output(book)),
             "listing" => ("listing", listing_with_facts(book, facts)),
@@ -170,12 +191,16 @@ impl Said {
             "size" => ("size", figures(book)),
             "order" => ("order", order_of(&desk_with(book, facts)).concat()),
             _ => {
-                if let Some(path) = kind.strip_prefix("size of ") {
+                if let Some(spelt) = kind.strip_prefix("preview of putting in ") {
+                    ("preview", preview(Change::PutIn, spelt))
+                } else if let Some(spelt) = kind.strip_prefix("preview of taking out ") {
+                    ("preview", preview(Change::TakeOut, spelt))
+                } else if let Some(path) = kind.strip_prefix("size of ") {
                     ("size", figures(&example(path)))
                 } else if let Some(path) = kind.strip_prefix("contradictory lines of ") {
                     ("contradictory lines", contradictory_lines(path, facts))
                 } else if let Some(path) = kind.strip_prefix("end of the order of ") {
-                    let order = order_of(&desk_with(&example(path), facts));
+                    let order = order_of(&desk_with(&example(path), ""));
                     let lines = block.text.lines().count();
                     ("order", order[order.len() - lines..].concat())
                 } else {
@@ -199,7 +224,7 @@ fn books_of_the_guide_have_what_stands_below_them() {
     }
     println!("{shown:?}");
     assert!(shown["listing"] >= 20, "{shown:?}");
-    for kind in ["size", "answer sets", "order"] {
+    for kind in ["preview", "size", "answer sets", "order"] {
         assert!(shown[kind] >= 3, "{shown:?}");
     }
 }
