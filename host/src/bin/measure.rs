@@ -21,6 +21,7 @@ fn main() -> ExitCode {
             print_rounds();
             print_groups();
             print_clashes();
+            print_previews();
             print_sizes();
             print_searches();
             print_stack();
@@ -392,16 +393,19 @@ fn print_clashes() {
 /// Microseconds of two put-ins, the first of which makes no clash and the second does. Each is made on a copy
 /// of the desk, which takes as long for both.
 fn times_of_put_ins(desk: &Desk, facts: [usize; 2]) -> [f64; 2] {
-    let put_in = |fact: usize| {
-        let mut copy = desk.clone();
-        copy.put_in(black_box(fact)).expect("the fact is out");
-        copy
-    };
+    let put_in = |fact: usize| copy_with(desk, fact);
     let [without, with] = facts.map(|fact| put_in(fact).model().expect("a book is loaded"));
     assert!(!without.contradictory && with.contradictory);
     let mut put_ins = facts.map(|fact| move || keep(put_in(fact)));
     let [one, other] = &mut put_ins;
     times_in_turns([one, other]).map(micros)
+}
+
+/// A copy of a desk, with a fact put in.
+fn copy_with(desk: &Desk, fact: usize) -> Desk {
+    let mut copy = desk.clone();
+    copy.put_in(black_box(fact)).expect("the fact is out");
+    copy
 }
 
 /// Of a contradictory lesson, the microseconds of a verdict that is given, if there is one, of one that is
@@ -419,6 +423,49 @@ fn times_beside(engine: &Desk, other: &second::Desk, clash: usize, names: usize)
     let given_time = given.map_or("none".to_string(), |_| given_time);
     let [refused, listing, second] = rest;
     [given_time, refused, listing, second]
+}
+
+/// A preview of putting in beside the calls that show the same without it, on one desk and on a copy, and a
+/// preview of taking out.
+fn print_previews() {
+    println!();
+    println!(
+        "| book | preview of putting in, µs | put in, listing, take out, µs | preview / these \
+         | put in on a copy, µs | listing with the fact, µs | preview / put in and listing \
+         | preview of taking out, µs |"
+    );
+    println!("|---|---|---|---|---|---|---|---|");
+    for Sample { label, file } in samples() {
+        let mut desk = Desk::fresh();
+        desk.load(&file).expect("the book loads");
+        let [preview, all_three, put_in, listing, of_taking_out] = times_of_previews(&desk);
+        println!(
+            "| {label} | {preview:.2} | {all_three:.2} | {} | {put_in:.2} | {listing:.2} | {} \
+             | {of_taking_out:.2} |",
+            ratio(preview, all_three),
+            ratio(preview, put_in + listing)
+        );
+    }
+}
+
+/// Microseconds of a preview of putting in, of putting in, listing and taking out on one desk, of putting in on a
+/// copy, of the listing there, and of a preview of taking out there.
+fn times_of_previews(desk: &Desk) -> [f64; 5] {
+    let with = copy_with(desk, FACT);
+    let mut changed = desk.clone();
+    let [mut one, mut two, mut three, mut four] = [[0; MOST_LISTING]; 4];
+    times_in_turns([
+        &mut || keep(desk.preview_put_in(black_box(FACT), &mut one)),
+        &mut || {
+            changed.put_in(black_box(FACT)).expect("the fact is out");
+            keep(changed.listing(&mut two));
+            changed.take_out(black_box(FACT)).expect("the fact is in");
+        },
+        &mut || keep(copy_with(desk, FACT)),
+        &mut || keep(with.listing(&mut three)),
+        &mut || keep(with.preview_take_out(black_box(FACT), &mut four)),
+    ])
+    .map(micros)
 }
 
 /// Sizing beside the load of the same file, in turns. A file without its last line, which is `end`, is
@@ -597,12 +644,12 @@ fn question_named(word: &str) -> Question {
 fn call_on(call: &str, stack: usize) {
     let file = match call {
         "deep" => deep_file(),
-        "clash" => clash_file(true),
+        "clash" | "preview-clash" => clash_file(true),
         _ => full_file(1),
     };
     let mut desk = Desk::fresh();
     desk.load(&file).expect("the book loads");
-    if call == "clash" {
+    if matches!(call, "clash" | "preview-clash") {
         desk.put_in(0).expect("the fact is out");
     }
     let mut buffer = vec![0; MOST_LISTING];
@@ -612,6 +659,7 @@ fn call_on(call: &str, stack: usize) {
         "put-in" | "clash" => desk.put_in(FACT),
         "model" => desk.model().map(drop),
         "listing" => desk.listing(&mut buffer).map(drop),
+        "preview" | "preview-clash" => desk.preview_put_in(FACT, &mut buffer).map(drop),
         "order" => desk.working_order().map(drop),
         "by-groups" => desk.model_by_groups().map(drop),
         "deep" => desk.search(plain(Tree::TU, 0)).map(drop),
@@ -666,6 +714,11 @@ fn print_stack() {
         ("put in with a clash that all names reach", "clash"),
         ("model of the full random book", "model"),
         ("listing of the full random book", "listing"),
+        ("preview of putting in on the full random book", "preview"),
+        (
+            "preview of putting in with a clash that all names reach",
+            "preview-clash",
+        ),
         ("working order of the full random book", "order"),
         ("model by groups of the full random book", "by-groups"),
         ("search of the deep book, 60 and 60 names", "deep"),
