@@ -172,10 +172,10 @@ fn change_number(a: ChangeAnswer) -> u8
 fn changed(desk: Desk, change: Change) -> ChangeReply
     ensures { λ r. ⌜ ChangeIn (desk .shelf) (Changes (desk .shelf) (desk .lesson) change) r ⌝ }
 {
-    let q = lesson::change_facts(desk.shelf, desk.lesson, change);
+    let mut after = desk;
+    let q = lesson::change_facts(after.shelf, after.lesson, change);
     let answer = q.answer;
     let lesson = q.lesson;
-    let mut after = desk;
     after.lesson = lesson;
     ChangeReply {
         number: change_number(answer),
