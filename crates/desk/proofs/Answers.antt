@@ -1,5 +1,5 @@
--- What every model call and every listing of a run answers: the sets that stand are M and N of the list's program, so the model call gives them, and the
--- bytes that a listing writes from them are the listing of the list's book and facts.
+-- What every model call, listing and preview of a run answers: the sets that stand are M and N of the list's program, so the model call gives them, and the
+-- bytes that a listing writes from them are the listing of the list's book and facts. Those of the copy that a preview lists are M and N of the changed program.
 use mathlib.Core.Path.{_≡_, refl, sym, _∙_, ap}
 use mathlib.Core.Bool.{Bool, true, false, true≢false}
 use mathlib.Core.Logic.{inl}

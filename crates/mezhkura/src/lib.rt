@@ -172,6 +172,7 @@ fn change_number(a: ChangeAnswer) -> u8
 fn changed(desk: Desk, change: Change) -> ChangeReply
     ensures { λ r. ⌜ ChangeIn (desk .shelf) (Changes (desk .shelf) (desk .lesson) change) r ⌝ }
 {
+    // The desk that is returned is made before the call: made behind it, it is copied once more.
     let mut after = desk;
     let q = lesson::change_facts(after.shelf, after.lesson, change);
     let answer = q.answer;
