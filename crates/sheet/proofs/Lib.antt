@@ -1,0 +1,2 @@
+-- The laws of proof sheets.
+pub mod Stored

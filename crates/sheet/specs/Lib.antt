@@ -1,0 +1,3 @@
+-- What a proof sheet is, when it is accepted, and its flat form.
+pub mod Sheet
+pub mod Flat
