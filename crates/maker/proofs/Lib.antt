@@ -1,0 +1,7 @@
+-- Why the maker's sheets are accepted, and why it finds one for every claim that is so.
+pub mod Counted
+pub mod Stands
+pub mod Complete
+pub mod Passed
+pub mod Loops
+pub mod Rounds

@@ -1,0 +1,2 @@
+-- What the contracts of `maker` cite.
+pub mod Making
