@@ -170,10 +170,10 @@ module _ (rules : List Rule) (facts : Set) (known : ℕ) where
 
 -- ---- a sheet so far
 
--- n entries stand in the table
-pub record Making (rules : List Rule) (facts : Set) (known : ℕ) (fields : List ℕ) (n : ℕ) (T F : Set) : Type 0 where
-  pub stands : Stands rules facts known (entriesIn fields n) T F
-  pub bounded : n ≤ sizeBelow known T + sizeBelow known F
+-- it stands, and has no more entries than there are literals shown
+pub record Making (rules : List Rule) (facts : Set) (known : ℕ) (es : List SheetEntry) (T F : Set) : Type 0 where
+  pub stands : Stands rules facts known es T F
+  pub bounded : length es ≤ sizeBelow known T + sizeBelow known F
   pub truths-known : (A : ℕ) → A ∈ T → A < known
   pub facts-there : (A : ℕ) → A ∈ facts → A < known → A ∈ T
 
@@ -270,13 +270,12 @@ module _ (rules : List Rule) (facts : Set) (known names : ℕ) (known-is : known
   -- ---- a round
 
   -- the facts that are known
-  pub making-start : (before : List ℕ) {fields : List ℕ} {n : ℕ} {T F : Set} → T ≡ facts ∖ fromOn known → F ≡ ∅ → n ≡ 0 + sizeBelow known facts
-      → entriesIn fields n ≡ entriesIn before 0 ++ map (memberEntry 1 0) (members known facts) → Making rules facts known fields n T F
-  making-start before {fields} {n} {T} {F} t f count es =
+  pub making-start : {T F : Set} → T ≡ facts ∖ fromOn known → F ≡ ∅ → Making rules facts known (map (memberEntry 1 0) (members known facts)) T F
+  making-start {T} {F} t f =
       record {
-        stands = subst (λ X. X) (ap₂ (λ (l : List SheetEntry) (X : Set). Stands rules facts known l X F) (sym (es ∙ ap (λ (l : List SheetEntry). l ++ map (memberEntry 1 0) (members known facts)) (rows-none (entryIn before) 0))) same)
+        stands = subst (λ (X : Set). Stands rules facts known (map (memberEntry 1 0) (members known facts)) X F) same
             (rw f (stands-facts rules facts known (members known facts) (λ A m. members-are known facts A .0 m) (stands-none rules facts known)));
-        bounded = omega (arith, count, ap length (members-same known T facts agree));
+        bounded = omega (arith, length-map (members known facts) (memberEntry 1 0), ap length (members-same known T facts agree));
         truths-known = λ A a. only A a .1;
         facts-there = there;
       }
@@ -302,65 +301,63 @@ module _ (rules : List Rule) (facts : Set) (known names : ℕ) (known-is : known
       agree : (A : ℕ) → A < known → T A ≡ facts A
       agree A h = same-test (λ a. only A a .0) (λ i. there A i h)
 
-  module _ {fields : List ℕ} {n : ℕ} {T F : Set} (s : Making rules facts known fields n T F) where
+  module _ {es : List SheetEntry} {T F : Set} (s : Making rules facts known es T F) where
     -- the sheet with the group of this round
     module _ {D G E : Set} (D-is : D ≡ Γs Q T) {all : Set} (all-is : all ≡ fromOn 0) (G-is : G ≡ (all ∖ D) ∖ F) (E-is : E ≡ F ∪ G) where
       the-group : G ≡ (fromOn 0 ∖ Γs Q T) ∖ F
       the-group = G-is ∙ ap₂ (λ (a d : Set). (a ∖ d) ∖ F) all-is D-is
 
-      group-fits : n + sizeBelow known G ≤ sizeBelow known T + sizeBelow known E
+      group-fits : length es + sizeBelow known G ≤ sizeBelow known T + sizeBelow known E
       group-fits = omega (arith, s .bounded, group-size T (s .truths-known) F G the-group, ap (sizeBelow known) E-is)
 
-      pub group-room : length fields ≡ 4 * maxSheet → 4 * (n + sizeBelow known G) ≤ length fields
-      group-room l = omega (arith, known-is, group-fits, length-most T 0 known, length-most E 0 known)
+      pub group-room : 4 * (length es + sizeBelow known G) ≤ 4 * maxSheet
+      group-room = omega (arith, known-is, group-fits, length-most T 0 known, length-most E 0 known)
+
+      pub with-group : Making rules facts known (es ++ map (memberEntry 0 (length es)) (members known G)) T E
+      with-group =
+          record {
+            stands = rw E-is (group-stands T (s .truths-known) F G the-group (s .stands));
+            bounded = omega (arith, group-fits, length-append es (map (memberEntry 0 (length es)) (members known G)), length-map (members known G) (memberEntry 0 (length es)));
+            truths-known = s .truths-known;
+            facts-there = s .facts-there;
+          }
 
       -- every literal outside Γs(T) is in it
       pub group-covers : (B : ℕ) → B < capacity → B ∉ Γs Q T → B ∈ E
       group-covers B h o = ap (λ (X : Set). X B) E-is ∙ group-has T (s .truths-known) F G the-group B h o
 
-      pub with-group : (after : List ℕ) {m : ℕ} → m ≡ n + sizeBelow known G → entriesIn after m ≡ entriesIn fields n ++ map (memberEntry 0 n) (members known G) → Making rules facts known after m T E
-      with-group after {m} count es =
-          record {
-            stands = subst (λ X. X) (ap₂ (λ (l : List SheetEntry) (X : Set). Stands rules facts known l T X) (sym (es ∙ ap (λ (k : ℕ). entriesIn fields n ++ map (memberEntry 0 k) (members known G)) (sym (rows-length (entryIn fields) 0 n)))) (sym E-is))
-                (group-stands T (s .truths-known) F G the-group (s .stands));
-            bounded = omega (arith, group-fits);
-            truths-known = s .truths-known;
-            facts-there = s .facts-there;
-          }
-
     -- the sheet with the heads of this round
-    pub with-passes : {after : List ℕ} {m : ℕ} {U : Set} → Passes rules known F (entriesIn fields n) T (entriesIn after m) U → Making rules facts known after m U F
-    with-passes {after} {m} {U} p =
+    pub with-passes : {after : List SheetEntry} {U : Set} → Passes rules known F es T after U → Making rules facts known after U F
+    with-passes p =
         record {
           stands = passes-stand rules known F facts p (s .stands);
-          bounded = omega (arith, passes-most rules known F p, rows-length (entryIn after) 0 m, rows-length (entryIn fields) 0 n, s .bounded);
+          bounded = omega (arith, passes-most rules known F p, s .bounded);
           truths-known = passes-known rules known F p (s .truths-known);
           facts-there = λ A i h. passes-grow rules known F p A (s .facts-there A i h);
         }
 
-    pub making-few : n ≤ 2 * known
+    pub making-few : length es ≤ 2 * known
     making-few = omega (arith, s .bounded, length-most T 0 known, length-most F 0 known)
 
     -- ---- at the end
 
     -- a claim that is among its literals is accepted
-    pub making-passes : (truth : Bool) (A : ℕ) → cond truth (T A) (F A) ≡ true → judgement rules facts known truth A (entriesIn fields n) ≡ accepted
+    pub making-passes : (truth : Bool) (A : ℕ) → cond truth (T A) (F A) ≡ true → judgement rules facts known truth A es ≡ accepted
     unfolding judgement judgedBy among
     making-passes truth A c =
         let most = making-few in
-        let size = rows-length (entryIn fields) 0 n in
-        rw (size, lt-ltb 0 n (some-entry (entriesIn fields n) claimed size), le-leb n maxSheet (omega arith)) (rw (stands-follows rules facts known (s .stands), claimed) refl)
+        rw (lt-ltb 0 (length es) (some-entry es claimed), le-leb (length es) maxSheet (omega arith)) (rw (stands-follows rules facts known (s .stands), claimed) refl)
       where
-        claimed : among (kindOf truth) A (entriesIn fields n) ≡ true
+        claimed : among (kindOf truth) A es ≡ true
         claimed = go truth c
           where
-            go : (truth : Bool) → cond truth (T A) (F A) ≡ true → among (kindOf truth) A (entriesIn fields n) ≡ true
+            go : (truth : Bool) → cond truth (T A) (F A) ≡ true → among (kindOf truth) A es ≡ true
             go true i = s .stands .truths A i
             go false i = s .stands .falses-are A i
 
-        some-entry : (es : List SheetEntry) → among (kindOf truth) A es ≡ true → length es ≡ n → 0 < n
-        some-entry [] a e = absurd (clash a refl)
-        some-entry (x ∷ es) a e = omega arith
+        some-entry : (es : List SheetEntry) → among (kindOf truth) A es ≡ true → 0 < length es
+        some-entry [] a = absurd (clash a refl)
+        some-entry (x ∷ es) a = omega arith
 
     -- where no rule is left to add, all that is so is there
     pub making-complete : Within known P → ((B : ℕ) → B < capacity → B ∉ Γs Q T → B ∈ F) → passed known F 0 rules T ≡ []
@@ -385,27 +382,51 @@ module _ (rules : List Rule) (facts : Set) (known names : ℕ) (known-is : known
         go true so = all-true P known w T F covers-known full A so
         go false so = all-false P known w T F covers-known full A l so
 
-  -- ---- what is made
+  -- ---- in a table
 
-  module _ {fields : List ℕ} {n : ℕ} {T F : Set} (s : Making rules facts known fields n T F) {rs : List Rule} {k : ℕ} (rules-are : rules ≡ rs) (is : known ≡ k) (truth : Bool) (A : ℕ) where
-    pub made-found : cond truth (T A) (F A) ≡ true → MadeFor rs facts k truth A (record { found = true; count = n; sheet = record { fields = fields } })
-    made-found c =
-        rw (← rules-are, ← is)
-        (record {
-          few = making-few s;
-          passes = λ _. making-passes s truth A c;
-          complete = λ w l so. refl;
-        })
+  pub start-there : (before after : List ℕ) (n : ℕ) {T F : Set} → T ≡ facts ∖ fromOn known → F ≡ ∅
+      → entriesIn after n ≡ entriesIn before 0 ++ map (memberEntry 1 0) (members known facts) → Making rules facts known (entriesIn after n) T F
+  start-there before after n t f es = rw (es, rows-none (entryIn before) 0) (making-start t f)
 
-    pub made-none : ((B : ℕ) → B < capacity → B ∉ Γs Q T → B ∈ F) → passed known F 0 rules T ≡ [] → cond truth (T A) (F A) ≡ false
-        → MadeFor rs facts k truth A (record { found = false; count = n; sheet = record { fields = fields } })
-    made-none covers none c =
-        rw (← rules-are, ← is)
-        (record {
-          few = making-few s;
-          passes = λ e. absurd (clash e refl);
-          complete = λ w l so. absurd (clash (making-complete s w covers none truth A l so) c);
-        })
+  module _ (fields : List ℕ) (n : ℕ) {T F : Set} (s : Making rules facts known (entriesIn fields n) T F) where
+    size : length (entriesIn fields n) ≡ n
+    size = rows-length (entryIn fields) 0 n
+
+    pub few-there : n ≤ 2 * known
+    few-there = omega (arith, size, making-few s)
+
+    pub bound-there : n ≤ sizeBelow known T + sizeBelow known F
+    bound-there = omega (arith, size, s .bounded)
+
+    module _ {D G E : Set} (D-is : D ≡ Γs Q T) {all : Set} (all-is : all ≡ fromOn 0) (G-is : G ≡ (all ∖ D) ∖ F) (E-is : E ≡ F ∪ G) where
+      pub room-there : length fields ≡ 4 * maxSheet → 4 * (n + sizeBelow known G) ≤ length fields
+      room-there l = omega (arith, size, group-room s D-is all-is G-is E-is)
+
+      pub group-there : (after : List ℕ) (m : ℕ) → entriesIn after m ≡ entriesIn fields n ++ map (memberEntry 0 n) (members known G)
+          → Making rules facts known (entriesIn after m) T E
+      group-there after m es = rw es (rw size at (with-group s D-is all-is G-is E-is))
+
+    -- ---- what is made
+
+    module _ {rs : List Rule} {k : ℕ} (rules-are : rules ≡ rs) (is : known ≡ k) (truth : Bool) (A : ℕ) where
+      pub made-found : cond truth (T A) (F A) ≡ true → MadeFor rs facts k truth A (record { found = true; count = n; sheet = record { fields = fields } })
+      made-found c =
+          rw (← rules-are, ← is)
+          (record {
+            few = few-there;
+            passes = λ _. making-passes s truth A c;
+            complete = λ w l so. refl;
+          })
+
+      pub made-none : ((B : ℕ) → B < capacity → B ∉ Γs Q T → B ∈ F) → passed known F 0 rules T ≡ [] → cond truth (T A) (F A) ≡ false
+          → MadeFor rs facts k truth A (record { found = false; count = n; sheet = record { fields = fields } })
+      made-none covers none c =
+          rw (← rules-are, ← is)
+          (record {
+            few = few-there;
+            passes = λ e. absurd (clash e refl);
+            complete = λ w l so. absurd (clash (making-complete s w covers none truth A l so) c);
+          })
 
 -- ---- over the tables of a book
 

@@ -5,7 +5,7 @@ use Rattle.wfsx.specs.Sets.{members}
 use Rattle.maker.specs.Making.{fromOn}
 use Rattle.maker.proofs.Rounds.{passes-longer}
 use Rattle.book.proofs.Rows.{rows-length}
-use Rattle.sheet.specs.Flat.{entryIn}
+use Rattle.sheet.specs.Flat.{entryIn, entriesIn}
 use Rattle.wfsx.proofs.Members.{length-most}
 use mathlib.Core.Path.{_≡_, refl, sym, _∙_, ap}
 use mathlib.Core.List.{List}
@@ -23,12 +23,12 @@ use Rattle.book.specs.declared.Book.{Book}
 use Rattle.book.proofs.Names.{names-counted}
 use Rattle.book.proofs.Counts.{clamp-most}
 use Rattle.sheet.specs.Sheet.{maxSheet}
-use Rattle.maker.proofs.Rounds.{Making, making-start, group-room, with-group, group-covers, with-passes, making-few, made-found, made-none, passes-same, rules-small, derived-is}
+use Rattle.maker.proofs.Rounds.{Making, start-there, room-there, group-there, group-covers, with-passes, few-there, bound-there, made-found, made-none, passes-same, rules-small, derived-is}
 use Rattle.maker.proofs.make.Statement.{statement}
 use Rattle.maker.proofs.make.Tie as tie
 
 abbrev Inv-loop : tie.InvT-loop
-Inv-loop facts literal truth book known count all unknown fields₀ t₀ f₀ n₀ fields t f n = (length fields ≡ 4 * maxSheet) × Making (rulesIn (book .heads) (book .starts) (book .entries) count) (setOf (facts .words)) known fields n (setOf (t .words)) (setOf (f .words))
+Inv-loop facts literal truth book known count all unknown fields₀ t₀ f₀ n₀ fields t f n = (length fields ≡ 4 * maxSheet) × Making (rulesIn (book .heads) (book .starts) (book .entries) count) (setOf (facts .words)) known (entriesIn fields n) (setOf (t .words)) (setOf (f .words))
 
 abbrev μ-loop : tie.MeasureT-loop
 μ-loop facts literal truth book known count all unknown fields₀ t₀ f₀ n₀ fields t f n = 2 * known - n
@@ -108,7 +108,7 @@ loop-holds : tie.Need-loop-holds Inv-loop μ-loop
 loop-holds c =
     let from = c .before .before .before .before .before in
     let put = c .before .put-members .ensures in
-    (search needs, making-start (rules from) (facts from) (known from) _ (known-is from) (few from) (facts-room from) (small from) _ (c .before .before .before .before .difference .ensures ∙ ap (λ (X : Set). facts from ∖ X) (from .from2 .ensures)) (c .before .before .before .empty .ensures) (put .0) (put .1))
+    (search needs, start-there (rules from) (facts from) (known from) _ (known-is from) (few from) (facts-room from) (small from) _ _ _ (c .before .before .before .before .difference .ensures ∙ ap (λ (X : Set). facts from ∖ X) (from .from2 .ensures)) (c .before .before .before .empty .ensures) (put .1))
 
 -- ---- the group of a round
 
@@ -130,7 +130,7 @@ module _ (c : tie.After-difference3 Inv-loop μ-loop) where
   group-is = c .difference3 .ensures ∙ ap (λ (X : Set). X ∖ setOf (at .loop .f .words)) (c .before .difference2 .ensures)
 
   has-room : 4 * (at .loop .n + length (members (known from) (setOf (c .difference3 .result .words)))) ≤ length (at .loop .fields)
-  has-room = group-room (rules from) (facts from) (known from) _ (known-is from) (few from) (facts-room from) (small from) (at .loop .inv .1) underived (from .before .from .ensures) group-is refl (at .loop .inv .0)
+  has-room = room-there (rules from) (facts from) (known from) _ (known-is from) (few from) (facts-room from) (small from) (at .loop .fields) (at .loop .n) (at .loop .inv .1) underived (from .before .from .ensures) group-is refl (at .loop .inv .0)
 
 -- the sheet with it
 module _ (c : tie.After-union2 Inv-loop μ-loop) where
@@ -143,18 +143,18 @@ module _ (c : tie.After-union2 Inv-loop μ-loop) where
   table-size : length table ≡ 4 * maxSheet
   table-size = c .before .fields4 .given
 
-  grouped : Making (rules (from at-group)) (facts (from at-group)) (known (from at-group)) table (c .before .before .put-members2 .result) (truths at-group) (setOf (c .union2 .result .words))
+  grouped : Making (rules (from at-group)) (facts (from at-group)) (known (from at-group)) (entriesIn table (c .before .before .put-members2 .result)) (truths at-group) (setOf (c .union2 .result .words))
   grouped =
       let from = from at-group in
       let put = c .before .before .put-members2 .ensures in
-      with-group (rules from) (facts from) (known from) _ (known-is from) (few from) (facts-room from) (small from) (at at-group .loop .inv .1) (underived at-group) (from .before .from .ensures) (group-is at-group) (c .union2 .ensures) table (put .0) (put .1)
+      group-there (rules from) (facts from) (known from) _ (known-is from) (few from) (facts-room from) (small from) (at at-group .loop .fields) (at at-group .loop .n) (at at-group .loop .inv .1) (underived at-group) (from .before .from .ensures) (group-is at-group) (c .union2 .ensures) table (c .before .before .put-members2 .result) (put .1)
 
 -- the sheet with the heads of the round
 module _ (c : tie.After-put-truths Inv-loop μ-loop) where
   abbrev at-union : tie.After-union2 Inv-loop μ-loop
   at-union = c .before .before .before .before .before .before .before .before .before
 
-  shown-too : Making (rules (from (at-group at-union))) (facts (from (at-group at-union))) (known (from (at-group at-union))) (c .put-truths .last .1 .1 .1 .1 .0) (c .put-truths .result .count) (setOf (c .put-truths .result .truths .words)) (setOf (at-union .union2 .result .words))
+  shown-too : Making (rules (from (at-group at-union))) (facts (from (at-group at-union))) (known (from (at-group at-union))) (entriesIn (c .put-truths .last .1 .1 .1 .1 .0) (c .put-truths .result .count)) (setOf (c .put-truths .result .truths .words)) (setOf (at-union .union2 .result .words))
   shown-too = let from = from (at-group at-union) in with-passes (rules from) (facts from) (known from) _ (known-is from) (few from) (facts-room from) (small from) (grouped at-union) (c .put-truths .ensures .0)
 
   longer : at-union .before .before .put-members2 .result ≤ c .put-truths .result .count
@@ -183,7 +183,7 @@ slice-aggregate-put-members-2 : tie.Need-slice-aggregate-put-members-2 Inv-loop 
 slice-aggregate-put-members-2 c = search needs
 
 cast-put-members : tie.Need-cast-put-members Inv-loop μ-loop
-cast-put-members c = let at = at (c .before) in let from = at-from at in omega (arith, known-is from, few from, making-few (rules from) (facts from) (known from) _ (known-is from) (few from) (facts-room from) (small from) (at .loop .inv .1))
+cast-put-members c = let at = at (c .before) in let from = at-from at in omega (arith, known-is from, few from, few-there (rules from) (facts from) (known from) _ (known-is from) (few from) (facts-room from) (small from) (at .loop .fields) (at .loop .n) (at .loop .inv .1))
 
 put-members-requires-2 : tie.Need-put-members-requires-2 Inv-loop μ-loop
 put-members-requires-2 c κs = let from = from (c .before) in (omega (arith, known-is from, few from), has-room (c .before))
@@ -198,7 +198,7 @@ put-truths-requires : tie.Need-put-truths-requires Inv-loop μ-loop
 put-truths-requires c κs =
     let union = c .before .before .before .before .before .before .before .before in
     let from = from (at-group union) in
-    (omega (arith, from .before .before .rule-count .ensures, clamp-most maxRules (book from .rules)), omega (arith, known-is from, few from), table-size union, grouped union .bounded)
+    (omega (arith, from .before .before .rule-count .ensures, clamp-most maxRules (book from .rules)), omega (arith, known-is from, few from), table-size union, bound-there (rules from) (facts from) (known from) _ (known-is from) (few from) (facts-room from) (small from) (table union) (union .before .before .put-members2 .result) (grouped union))
 
 is-claimed-requires : tie.Need-is-claimed-requires Inv-loop μ-loop
 is-claimed-requires c κs = search needs
@@ -207,7 +207,7 @@ returns : tie.Need-returns Inv-loop μ-loop
 returns c =
     let truths = c .before .before .before .before in
     let from = from (at-group (at-union truths)) in
-    made-found (rules from) (facts from) (known from) _ (known-is from) (few from) (facts-room from) (small from) (shown-too truths) (rules-are from) (known-is from) _ _ (sym (c .before .is-claimed .ensures) ∙ c .if1 .taken)
+    made-found (rules from) (facts from) (known from) _ (known-is from) (few from) (facts-room from) (small from) (truths .put-truths .last .1 .1 .1 .1 .0) (truths .put-truths .result .count) (shown-too truths) (rules-are from) (known-is from) _ _ (sym (c .before .is-claimed .ensures) ∙ c .if1 .taken)
 
 returns-2 : tie.Need-returns-2 Inv-loop μ-loop
 returns-2 c =
@@ -216,14 +216,14 @@ returns-2 c =
     let group = at-group union in
     let from = from group in
     let passes = truths .put-truths .ensures in
-    made-none (rules from) (facts from) (known from) _ (known-is from) (few from) (facts-room from) (small from) (shown-too truths) (rules-are from) (known-is from) _ _ (rw (← none-added truths (c .if2 .taken)) (group-covers (rules from) (facts from) (known from) _ (known-is from) (few from) (facts-room from) (small from) (at group .loop .inv .1) (underived group) (from .before .from .ensures) (group-is group) (union .union2 .ensures))) (passes .1) (sym (c .before .before .is-claimed .ensures) ∙ c .before .if1 .left)
+    made-none (rules from) (facts from) (known from) _ (known-is from) (few from) (facts-room from) (small from) (truths .put-truths .last .1 .1 .1 .1 .0) (truths .put-truths .result .count) (shown-too truths) (rules-are from) (known-is from) _ _ (rw (← none-added truths (c .if2 .taken)) (group-covers (rules from) (facts from) (known from) _ (known-is from) (few from) (facts-room from) (small from) (at group .loop .inv .1) (underived group) (from .before .from .ensures) (group-is group) (union .union2 .ensures))) (passes .1) (sym (c .before .before .is-claimed .ensures) ∙ c .before .if1 .left)
 
 loop-less : tie.Need-loop-less Inv-loop μ-loop
 loop-less c =
     let truths = c .before .before .before .before .before in
     let union = at-union truths in
     let from = from (at-group union) in
-    omega (arith, longer truths, union .before .before .put-members2 .ensures .0, making-few (rules from) (facts from) (known from) _ (known-is from) (few from) (facts-room from) (small from) (shown-too truths), c .if2 .left)
+    omega (arith, longer truths, union .before .before .put-members2 .ensures .0, few-there (rules from) (facts from) (known from) _ (known-is from) (few from) (facts-room from) (small from) (truths .put-truths .last .1 .1 .1 .1 .0) (truths .put-truths .result .count) (shown-too truths), c .if2 .left)
 
 loop-again : tie.Need-loop-again Inv-loop μ-loop
 loop-again c = let truths = c .before .before .before .before .before in (c .before .before .before .before .fields6 .given, shown-too truths)
