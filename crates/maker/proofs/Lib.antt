@@ -5,3 +5,4 @@ pub mod Complete
 pub mod Passed
 pub mod Loops
 pub mod Rounds
+pub mod Exists
