@@ -1,2 +1,4 @@
 -- The laws of proof sheets.
 pub mod Stored
+pub mod Open
+pub mod Sound

@@ -1,3 +1,4 @@
 -- What a proof sheet is, when it is accepted, and its flat form.
 pub mod Sheet
 pub mod Flat
+pub mod Turns

@@ -4,9 +4,9 @@ use mathlib.Core.List.{List, [], _∷_}
 use Prim.Native.Nat.{ℕ, zero, suc, _+_, _*_}
 use lib.Dec.{eqb, ltb, leb}
 use lib.ListN.{length}
-use Rattle.wfsx.specs.Sets.{Set, ∅, _∪_, add}
+use Rattle.wfsx.specs.Sets.{Set, _∈_, _∉_, ∅, _∪_, add}
 use Rattle.wfsx.specs.Program.{compl, Entry, positive, default, Rule, Program}
-use Rattle.wfsx.specs.Model.{every}
+use Rattle.wfsx.specs.Model.{every, M, N}
 use Rattle.book.specs.Limits.{maxNames, maxRules}
 use Rattle.book.specs.Book.{program}
 use Rattle.sheet.specs.declared.SheetEntry.{SheetEntry}
@@ -137,3 +137,10 @@ judgedBy none claimed = cond claimed accepted (refused 28 0)
 unfoldable pub judgement : List Rule → Set → ℕ → (truth : Bool) → ℕ → List SheetEntry → Judgement
 judgement rules facts known truth A es =
     cond (ltb 0 (length es) && leb (length es) maxSheet) (judgedBy (fault rules facts known es) (among (kindOf truth) A es)) (refused 26 0)
+
+-- ---- what a claim says
+
+-- A claim "true" says that its literal lies in M, a claim "false" that it lies outside N.
+abbrev pub So : Program → (truth : Bool) → ℕ → Type 0
+So P true A = A ∈ M P
+So P false A = A ∉ N P
