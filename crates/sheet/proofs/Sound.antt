@@ -20,7 +20,7 @@ use Rattle.wfsx.proofs.Facts.{supported-facts}
 use Rattle.litset.specs.Words.{capacity}
 use Rattle.book.specs.Book.{program}
 use Rattle.sheet.specs.declared.SheetEntry.{SheetEntry}
-use Rattle.sheet.specs.Sheet.{maxSheet, Block, single, group, joined, blocks, listed, shown, ruleNumbered, factNumber, namesRule, answered, everyRule, Fault, none, at, firstFailing, trueFollows, falseFollows, faultIn, fault, kindOf, among, Judgement, accepted, refused, judgedBy, judgement, So}
+use Rattle.sheet.specs.Sheet.{maxSheet, Block, single, group, joined, blocks, listed, shown, ruleNumbered, factNumber, namesRule, answered, everyRule, Fault, none, at, firstFailing, trueFollows, falseFollows, faultIn, fault, kindOf, among, Judgement, accepted, refused, judgedBy, judgement, IsSo}
 use Rattle.sheet.proofs.Open.{not-open}
 
 -- ---- groups
@@ -160,15 +160,15 @@ module _ (rules : List Rule) (facts : Set) (below : (A : ℕ) → A ∈ facts �
           (or-elim (eqb 0 k && listed As A) (amongBlocks k A bs) a)
 
   -- in a sheet all of whose entries follow, what each says is so
-  pub sheet-sound : (es : List SheetEntry) → fault rules facts known es ≡ none → (truth : Bool) (A : ℕ) → among (kindOf truth) A es ≡ true → So P truth A
+  pub sheet-sound : (es : List SheetEntry) → fault rules facts known es ≡ none → (truth : Bool) (A : ℕ) → among (kindOf truth) A es ≡ true → IsSo P truth A
   sheet-sound es h truth A a = of-kind truth (sheet-blocks ∅ ∅ ∅ 0 (blocks es) (λ B b. absurd (clash b refl)) (λ B b. absurd (clash b refl)) h (kindOf truth) A (sym (among-blocks (kindOf truth) A es) ∙ a))
     where
-      of-kind : (truth : Bool) → Says (kindOf truth) A → So P truth A
+      of-kind : (truth : Bool) → Says (kindOf truth) A → IsSo P truth A
       of-kind true s = s .0 refl
       of-kind false s = s .1 refl
 
   -- an accepted claim "true" lies in M, an accepted claim "false" outside N, whoever wrote the sheet
-  pub accepted-sound : (truth : Bool) (A : ℕ) (es : List SheetEntry) → judgement rules facts known truth A es ≡ accepted → So P truth A
+  pub accepted-sound : (truth : Bool) (A : ℕ) (es : List SheetEntry) → judgement rules facts known truth A es ≡ accepted → IsSo P truth A
   unfolding judgement judgedBy
   accepted-sound truth A es h = go (decided (ltb 0 (length es) && leb (length es) maxSheet))
     where
@@ -180,6 +180,6 @@ module _ (rules : List Rule) (facts : Set) (below : (A : ℕ) → A ∈ facts �
       by-fault none false h = absurd (not-refused h)
       by-fault (at i) b h = absurd (not-refused h)
 
-      go : (ltb 0 (length es) && leb (length es) maxSheet ≡ true) ⊎ (ltb 0 (length es) && leb (length es) maxSheet ≡ false) → So P truth A
+      go : (ltb 0 (length es) && leb (length es) maxSheet ≡ true) ⊎ (ltb 0 (length es) && leb (length es) maxSheet ≡ false) → IsSo P truth A
       go (inl y) = let w = by-fault (fault rules facts known es) (among (kindOf truth) A es) (rw y at h) in sheet-sound es (w .0) truth A (w .1)
       go (inr y) = absurd (not-refused (rw y at h))

@@ -2,3 +2,4 @@
 pub mod Sheet
 pub mod Flat
 pub mod Turns
+pub mod Answers

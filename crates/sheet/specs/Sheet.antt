@@ -141,6 +141,6 @@ judgement rules facts known truth A es =
 -- ---- what a claim says
 
 -- A claim "true" says that its literal lies in M, a claim "false" that it lies outside N.
-abbrev pub So : Program → (truth : Bool) → ℕ → Type 0
-So P true A = A ∈ M P
-So P false A = A ∉ N P
+abbrev pub IsSo : Program → (truth : Bool) → ℕ → Type 0
+IsSo P true A = A ∈ M P
+IsSo P false A = A ∉ N P
