@@ -6,7 +6,7 @@ use mathlib.Core.List.{List, [], _∷_}
 use Prim.Native.Nat.{ℕ}
 use lib.Dec.{eqb}
 use Rattle.wfsx.specs.Sets.{Set, _∪_}
-use Rattle.wfsx.specs.Program.{compl, Entry, positive, default, Program, seminormal}
+use Rattle.wfsx.specs.Program.{compl, Entry, positive, default, Program}
 use Rattle.wfsx.specs.Model.{holds, every, supported}
 use Rattle.sheet.specs.Sheet.{answers, some, answered, everyRule}
 use Rattle.sheet.specs.Turns.{beyond, openIn}

@@ -20,7 +20,7 @@ use Rattle.wfsx.proofs.Facts.{supported-facts}
 use Rattle.litset.specs.Words.{capacity}
 use Rattle.book.specs.Book.{program}
 use Rattle.sheet.specs.declared.SheetEntry.{SheetEntry}
-use Rattle.sheet.specs.Sheet.{maxSheet, Block, single, group, joined, blocks, listed, shown, ruleNumbered, factNumber, namesRule, answered, everyRule, Fault, none, at, firstFailing, trueFollows, falseFollows, faultIn, fault, kindOf, among, Judgement, accepted, refused, judgedBy, judgement, IsSo}
+use Rattle.sheet.specs.Sheet.{maxSheet, Block, single, group, joined, blocks, listed, shown, ruleNumbered, factNumber, namesRule, answered, everyRule, Fault, none, at, firstFailing, trueFollows, falseFollows, faultIn, fault, kindOf, among, accepted, refused, judgedBy, judgement, IsSo}
 use Rattle.sheet.proofs.Open.{not-open}
 
 -- ---- groups

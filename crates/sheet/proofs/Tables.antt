@@ -7,19 +7,19 @@ use mathlib.Core.List.{List, [], _∷_, map}
 use Prim.Native.Nat.{ℕ, zero, suc, _+_, _-_, _/_, _%_, _≤_, _<_}
 use native.Mathlib.Nat.{mod-lt, zero-lt-suc}
 use native.Mathlib.Omega.{arith}
-use lib.Dec.{eqb, ltb}
-use lib.ListN.{length, getD, take}
+use lib.Dec.{eqb}
+use lib.ListN.{length}
 use borrow.Author.Tests.{eqb-true, eq-eqb, ne-eqb, lt-ltb, le-ltb}
 use Rattle.truth.proofs.Truth.{decided, same-test}
-use Rattle.wfsx.specs.Sets.{Set, _∈_, _∉_, _∪_, _∖_, add}
+use Rattle.wfsx.specs.Sets.{Set, _∈_, _∪_, _∖_}
 use Rattle.wfsx.specs.Program.{compl, complements, Entry, positive, default, Rule}
 use Rattle.wfsx.specs.Model.{holds, every, supported}
-use Rattle.wfsx.proofs.Supported.{every-none, every-first, supported-none, supported-first, supported-seminormal}
+use Rattle.wfsx.proofs.Supported.{supported-none, supported-first, supported-seminormal}
 use Rattle.wfsx.proofs.Facts.{supported-facts}
 use Rattle.litset.specs.Words.{capacity, with}
 use Rattle.litset.proofs.Words.{with-room}
-use Rattle.book.specs.Book.{rows, entryOf, headAt, bodyOf, ruleAt, rulesIn, program}
-use Rattle.book.proofs.Rows.{rows-none, rows-first, rows-step, rows-end}
+use Rattle.book.specs.Book.{rows, entryOf, headAt, bodyOf, ruleAt, program}
+use Rattle.book.proofs.Rows.{rows-step, rows-end}
 use Rattle.book.proofs.Heads.{head-below}
 use Rattle.sheet.specs.Sheet.{shown, ruleNumbered, factNumber, namesRule, trueFollows}
 use Rattle.sheet.specs.Turns.{allRules, showsFor, beyond, openIn}

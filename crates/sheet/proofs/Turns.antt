@@ -15,14 +15,13 @@ use Rattle.truth.proofs.Truth.{clash, decided, same-test as same-test′, and-l
 use Rattle.wfsx.specs.Sets.{Set, ∅, _∈_, _∉_, _∪_, add}
 use Rattle.wfsx.specs.Program.{Rule}
 use Rattle.litset.specs.Words.{capacity, setOf, with}
-use Rattle.litset.specs.declared.LitSet.{LitSet}
 use Rattle.litset.proofs.Words.{with-room}
 use Rattle.book.specs.Book.{rows, program}
 use Rattle.book.proofs.Rows.{rows-step, rows-end, rows-length}
 use Rattle.sheet.specs.declared.SheetEntry.{SheetEntry}
 use Rattle.sheet.specs.declared.Progress.{Progress}
 use Rattle.sheet.specs.Sheet.{Block, single, group, joined, blocks, listed, Fault, none, at, firstFailing, trueFollows, falseFollows, faultIn, fault}
-use Rattle.sheet.specs.Turns.{allRules, openIn, numbered, literals, passes, FirstFailing, sameGroup, inRoom, RunTo, leftAt, leftFor, TurnOf, FaultAt}
+use Rattle.sheet.specs.Turns.{allRules, openIn, numbered, literals, passes, FirstFailing, sameGroup, RunTo, leftAt, leftFor, TurnOf, FaultAt}
 use Rattle.sheet.proofs.Open.{not-open}
 use Rattle.sheet.proofs.Sound.{failing-none}
 use Rattle.sheet.proofs.Tables.{open-agree}

@@ -7,7 +7,7 @@ ghost use lib.ListN.{length, getD};
 ghost use Rattle.wfsx.specs.Model.{every};
 ghost use Rattle.litset.specs.Words.{capacity, setOf};
 ghost use Rattle.book.specs.Book.{rows, bodyOf, entryIs, program, namesOf, rulesOf};
-ghost use Rattle.sheet.specs.Sheet.{shown, ruleNumbered, trueFollows, kindOf, among, judgement};
+ghost use Rattle.sheet.specs.Sheet.{shown, ruleNumbered, trueFollows, kindOf, among, refused, judgement};
 ghost use Rattle.sheet.specs.Flat.{entryIn, entriesIn, withEntry, blank};
 ghost use Rattle.sheet.specs.Turns.{allRules, showsFor, openIn, numbered, passes, FirstFailing, GroupOf, leftAt, TurnOf, FaultAt};
 ghost use Rattle.sheet.specs.Answers.{judgementOf};
@@ -473,6 +473,13 @@ fn is_among(fields: &[u16], n: usize, kind: u16, literal: usize) -> bool
     false
 }
 
+// The answer that refuses a sheet.
+fn refuse(number: u8, index: usize) -> Judgement
+    ensures { λ r. ⌜ judgementOf r ≡ refused number index ⌝ }
+{
+    Judgement::Refused { number, index }
+}
+
 // The first n entries of a sheet are judged for the claim that a literal is true, or that it is false.
 pub fn judge(
     book: Book,
@@ -486,16 +493,10 @@ pub fn judge(
         ≡ judgement (rulesOf book) (setOf (facts .words)) (2 * length (namesOf book)) truth literal (entriesIn (sheet .fields) n) ⌝ }
 {
     if n == 0 {
-        return Judgement::Refused {
-            number: 26,
-            index: 0,
-        };
+        return refuse(26, 0);
     }
     if MAX_SHEET < n {
-        return Judgement::Refused {
-            number: 26,
-            index: 0,
-        };
+        return refuse(26, 0);
     }
     let count = book::rule_count(book);
     let known = 2 * book::name_count(book);
@@ -510,16 +511,10 @@ pub fn judge(
         n,
     );
     if place < n {
-        return Judgement::Refused {
-            number: 27,
-            index: place,
-        };
+        return refuse(27, place);
     }
     if is_among(&sheet.fields, n, kind_of(truth), literal) {
         return Judgement::Accepted;
     }
-    Judgement::Refused {
-        number: 28,
-        index: 0,
-    }
+    refuse(28, 0)
 }

@@ -1,7 +1,6 @@
 -- `first_failing`: the entries before k pass.
 use borrow.Author.Needs.{needs}
 use Prim.Native.Nat.{_-_}
-use native.Mathlib.Omega.{arith}
 use borrow.Author.Tests.{not-true, not-false}
 use Rattle.litset.specs.Words.{setOf}
 use Rattle.sheet.specs.Flat.{entryIn}

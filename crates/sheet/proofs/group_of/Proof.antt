@@ -1,13 +1,13 @@
 -- `group_of`: the entries from the first on are of its group, and the set has their literals.
 use borrow.Author.Needs.{needs}
 use Prim.Native.Nat.{_-_}
-use mathlib.Core.Path.{_≡_, sym, _∙_, ap}
+use mathlib.Core.Path.{_∙_, ap}
 use native.Mathlib.Omega.{arith}
 use borrow.Author.Tests.{not-true, not-false}
 use Rattle.litset.specs.Words.{setOf, with}
 use Rattle.sheet.specs.Flat.{entryIn}
 use Rattle.sheet.specs.declared.SheetEntry.{SheetEntry}
-use Rattle.sheet.specs.Turns.{RunTo, GroupOf}
+use Rattle.sheet.specs.Turns.{RunTo}
 use Rattle.sheet.proofs.Entries.{run-first, run-stops, run-more}
 use Rattle.sheet.proofs.group_of.Statement.{statement}
 use Rattle.sheet.proofs.group_of.Tie as tie

@@ -29,7 +29,7 @@ is-false-of-requires c κs = search needs
 returns : tie.Need-returns Inv-loop μ-loop
 returns c =
     let turn = c .before .before .before in
-    numbered-found _ _ _ (turn .before .loop .inv) (turn .loop-test .taken) (c .before .before .entry-at .ensures) (c .before .is-false-of .ensures) (c .if1 .taken)
+    numbered-found _ _ _ (turn .before .loop .inv) (omega (arith, turn .loop-test .taken)) (c .before .before .entry-at .ensures) (c .before .is-false-of .ensures) (c .if1 .taken)
 
 loop-less : tie.Need-loop-less Inv-loop μ-loop
 loop-less c = search needs
@@ -37,7 +37,7 @@ loop-less c = search needs
 loop-again : tie.Need-loop-again Inv-loop μ-loop
 loop-again c =
     let turn = c .before .before .before in
-    numbered-other _ _ _ (turn .before .loop .inv) (turn .loop-test .taken) (c .before .before .entry-at .ensures) (c .before .is-false-of .ensures) (c .if1 .left)
+    numbered-other _ _ _ (turn .before .loop .inv) (omega (arith, turn .loop-test .taken)) (c .before .before .entry-at .ensures) (c .before .is-false-of .ensures) (c .if1 .left)
 
 returns-2 : tie.Need-returns-2 Inv-loop μ-loop
 returns-2 c =

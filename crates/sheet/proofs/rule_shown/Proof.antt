@@ -1,7 +1,6 @@
 -- `rule_shown`: the number is past the table, or the rule that it names has another head, or its body decides.
 use borrow.Author.Needs.{needs}
 use mathlib.Core.Path.{_∙_}
-use Rattle.litset.specs.Words.{setOf}
 use Rattle.sheet.proofs.Tables.{names-past, names-other, names-body}
 use Rattle.sheet.proofs.rule_shown.Statement.{statement}
 use Rattle.sheet.proofs.rule_shown.Tie as tie
