@@ -125,7 +125,7 @@ fn wide(n: u16) -> usize
     n as usize
 }
 
-// Whether an entry of a body is as wanted: in d where it is positive, in s where it is `not` of a literal.
+// Whether the answer for an entry of a body is the wanted one. What is asked: whether a positive literal is in d, and the literal of a `not` in s.
 fn entry_as(e: Entry, d: LitSet, s: LitSet, want: bool) -> bool
     ensures { λ r. ⌜ r ≡ Bool·beq (shown (setOf (d .words)) (setOf (s .words)) (entryIs e)) want ⌝ }
 {
@@ -139,7 +139,7 @@ fn entry_as(e: Entry, d: LitSet, s: LitSet, want: bool) -> bool
     }
 }
 
-// Whether every entry of the body of rule r is as wanted.
+// Whether it is for every entry of the body of rule r. A body is shown where all answers are yes, and a rule left open where all are no.
 fn body_as<'a>(
     starts: &'a [u16],
     entries: &'a [u16],
