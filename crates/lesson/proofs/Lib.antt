@@ -10,3 +10,4 @@ pub mod Rows
 pub mod ChangeLaws
 pub mod Exists
 pub mod Listings
+pub mod Sheets

@@ -16,7 +16,12 @@ use Rattle.book.specs.declared.Book.{Book}
 use Rattle.fixpoint.specs.Result.{ModelOf, verdictIs}
 use Rattle.reach.specs.Order.{orderTable}
 use Rattle.lister.specs.declared.Marks.{Marks}
-use Rattle.lesson.specs.State.{BookState, unloaded, loaded-with, Own, State, itsNames, inForce, programIn, Said, gives, refused, Ack, acknowledged, changeSays, changed, searchSays, contradictoryBelow, verdictSays, modelSays, whereLoaded, ifLoaded, orderIn, listingFrom, listingSays, bufferAfter}
+use Rattle.sheet.specs.Answers.{judgementOf}
+use Rattle.sheet.specs.declared.SheetEntry.{SheetEntry}
+use Rattle.sheet.specs.declared.Judgement.{Judgement}
+use Rattle.maker.specs.Making.{MadeFor}
+use Rattle.maker.specs.declared.Made.{Made}
+use Rattle.lesson.specs.State.{BookState, unloaded, loaded-with, Own, State, itsNames, itsRules, inForce, programIn, Said, gives, refused, Ack, acknowledged, changeSays, changed, searchSays, contradictoryBelow, verdictSays, modelSays, whereLoaded, ifLoaded, inOrder, orderIn, listingFrom, listingSays, bufferAfter, knownIn, checkSays, makeSays, entriesAfter}
 use Rattle.lesson.specs.declared.Shelf.{Shelf}
 use Rattle.lesson.specs.declared.Lesson.{Lesson}
 use Rattle.lesson.specs.declared.Change.{Change}
@@ -36,6 +41,9 @@ use Rattle.lesson.specs.declared.OrderAnswer.the-variants as order
 use Rattle.lesson.specs.declared.GroupsReply.{GroupsReply}
 use Rattle.lesson.specs.declared.ListingAnswer.{ListingAnswer}
 use Rattle.lesson.specs.declared.ListingAnswer.the-variants as listing
+use Rattle.lesson.specs.declared.MakeAnswer.{MakeAnswer}
+use Rattle.lesson.specs.declared.MakeAnswer.the-variants as making
+use Rattle.lesson.specs.declared.MakeReply.{MakeReply}
 
 -- ---- the meaning of shelf and lesson, whatever their bits
 
@@ -177,3 +185,35 @@ pub record Previews (s : Shelf) (l : Lesson) (c : Change) (before : List ℕ) (r
   pub copy : ChangeReply
   pub changes : Changes s l c copy
   pub followed : FollowedBy s (copy .answer) (copy .lesson) before r after
+
+-- ---- proof sheets
+
+-- the check of some entries for the claim that A is true, or that it is false
+pub record Checks (s : Shelf) (l : Lesson) (A : ℕ) (truth : Bool) (es : List SheetEntry) (r : Judgement) : Type 0 where
+  pub says : judgementOf r ≡ checkSays (meaningOf s l) A truth es
+
+abbrev pub makeSaid : MakeAnswer → Said ℕ
+makeSaid (making.Written n) = gives n
+makeSaid (making.Refused number) = refused number
+
+-- What the maker makes for a lent run with room for so many entries. Which sheet it is, is the program's choice; `MadeFor` says what all choices share.
+pub record MakesSheet (s : Shelf) (l : Lesson) (A : ℕ) (truth : Bool) (room : ℕ) (r : MakeReply) : Type 0 where
+  pub made : Made
+  pub made-for : MadeFor (itsRules (shelfOf s)) (inForce (ownOf l)) (knownIn (shelfOf s)) truth A made
+  pub says : makeSaid (r .answer) ≡ makeSays (knownIn (shelfOf s)) room (made .found) (made .count)
+  pub table : r .sheet ≡ made .sheet
+
+-- 20 and 21 come first
+abbrev pub MakesUnless : Said Ack → Shelf → Lesson → ℕ → Bool → ℕ → MakeReply → Type 0
+MakesUnless (gives x) s l A truth room r = MakesSheet s l A truth room r
+MakesUnless (refused number) s l A truth room r = makeSaid (r .answer) ≡ refused number
+
+pub record MakesTable (s : Shelf) (l : Lesson) (A : ℕ) (truth : Bool) (room : ℕ) (r : MakeReply) : Type 0 where
+  pub unless : MakesUnless (inOrder (shelfOf s) A (gives acknowledged)) s l A truth room r
+
+-- the maker on a lent run: `before` and `after` are its entries
+pub record Makes (s : Shelf) (l : Lesson) (A : ℕ) (truth : Bool) (before : List SheetEntry) (a : MakeAnswer) (after : List SheetEntry) : Type 0 where
+  pub reply : MakeReply
+  pub makes : MakesTable s l A truth (length before) reply
+  pub answers : a ≡ reply .answer
+  pub entries : after ≡ entriesAfter (reply .sheet .fields) before (makeSaid a)

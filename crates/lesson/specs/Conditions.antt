@@ -1,5 +1,7 @@
 -- The conditions of document 01, "When a call is turned down by the state", for each call in their order; that of 24 is document 02's (A.7).
 use mathlib.Core.Path.{_≡_}
+use mathlib.Core.Bool.{Bool, false}
+use mathlib.Core.Logic.{_⊎_}
 use mathlib.Core.List.{List, [], _∷_, _++_}
 use Prim.Native.Nat.{ℕ, _*_, _≤_, _<_}
 use lib.ListN.{length}
@@ -7,7 +9,9 @@ use Rattle.wfsx.specs.Sets.{_∈_, _∉_}
 use Rattle.wfsx.specs.Reach.{nameOf}
 use Rattle.wfsx.specs.ContradictoryNames.{ContradictoryName}
 use Rattle.reader.specs.Conditions.{Row}
-use Rattle.lesson.specs.State.{unloaded, itsNames, State, programIn, listingIn, itsLiteral, stateAfter}
+use Rattle.sheet.specs.Sheet.{maxSheet, at, fault, kindOf, among, IsSo}
+use Rattle.sheet.specs.declared.SheetEntry.{SheetEntry}
+use Rattle.lesson.specs.State.{unloaded, itsNames, itsRules, State, inForce, programIn, listingIn, itsLiteral, stateAfter, knownIn}
 use Rattle.lesson.specs.declared.Change.{Change}
 use Rattle.lesson.specs.declared.Change.the-variants.{PutIn, TakeOut}
 
@@ -45,3 +49,22 @@ listingRows d buffer = (20, NoBook d) ∷ (25, length buffer < length (listingIn
 -- a preview has those of the change, then those of the listing of what the change leaves (document 02, A.8)
 abbrev pub previewRows : State → Change → List ℕ → List Row
 previewRows d c buffer = changeRows d c ++ listingRows (stateAfter d c) buffer
+
+-- ---- proof sheets (document 02, A.3)
+
+-- 26: no entries, or more than a sheet may have
+abbrev pub Miscounted : List SheetEntry → Type 0
+Miscounted es = (length es ≡ 0) ⊎ (maxSheet < length es)
+
+-- 27: an entry doesn't follow; the first is that at i
+abbrev pub FaultAt : State → List SheetEntry → ℕ → Type 0
+FaultAt d es i = fault (itsRules (d .book)) (inForce (d .own)) (knownIn (d .book)) es ≡ at i
+
+-- 28: the claim isn't among the entries
+abbrev pub checkRows : State → ℕ → Bool → List SheetEntry → List Row
+checkRows d A truth es =
+    (20, NoBook d) ∷ (21, NotBelow d A) ∷ (26, Miscounted es) ∷ (27, (i : ℕ) × FaultAt d es i) ∷ (28, among (kindOf truth) A es ≡ false) ∷ []
+
+-- the maker: 28: the claim isn't so; 25: the lent run is shorter than two entries for each literal
+abbrev pub makeRows : State → ℕ → Bool → List SheetEntry → List Row
+makeRows d A truth run = (20, NoBook d) ∷ (21, NotBelow d A) ∷ (28, IsSo (programIn d) truth A → ⊥) ∷ (25, length run < 2 * knownIn (d .book)) ∷ []

@@ -17,6 +17,10 @@ use Rattle.litset.specs.declared.Clash.{Clash}
 use Rattle.litset.specs.declared.Clash.the-variants.{None, Name}
 use Rattle.book.specs.Book.{program}
 use Rattle.fixpoint.specs.Result.{verdictIn}
+use Rattle.sheet.specs.Sheet.{Judgement, accepted, judgement}
+use Rattle.sheet.specs.Sheet as sheet
+use Rattle.sheet.specs.Flat.{entriesIn}
+use Rattle.sheet.specs.declared.SheetEntry.{SheetEntry}
 use Rattle.lister.specs.Listing.{listingOf, listingBySets}
 use Rattle.lesson.specs.declared.Change.{Change}
 use Rattle.lesson.specs.declared.Change.the-variants.{PutIn, TakeOut}
@@ -168,3 +172,35 @@ listingSays b bytes buffer = ifLoaded b (cond (leb (length bytes) (length buffer
 abbrev pub bufferAfter : List ℕ → List ℕ → Said ℕ → List ℕ
 bufferAfter bytes buffer (gives n) = bytes ++ drop n buffer
 bufferAfter bytes buffer (refused number) = buffer
+
+-- ---- proof sheets (document 02, A.3)
+
+-- twice the count of names: the literals below it are known
+abbrev pub knownIn : BookState → ℕ
+knownIn b = 2 * length (itsNames b)
+
+-- what is said of the entries of a sheet, for a claim that 20 and 21 do not turn down
+unfoldable pub judgedIn : State → ℕ → (truth : Bool) → List SheetEntry → Judgement
+judgedIn d A truth es = judgement (itsRules (d .book)) (inForce (d .own)) (knownIn (d .book)) truth A es
+
+-- a judgement as an answer
+abbrev pub judgementSays : Judgement → Said Ack
+judgementSays accepted = gives acknowledged
+judgementSays (sheet.refused number index) = refused number
+
+-- 20 and 21, for the claim, come first
+abbrev pub unlessTurned : Said Ack → Judgement → Judgement
+unlessTurned (gives x) j = j
+unlessTurned (refused number) j = sheet.refused number 0
+
+unfoldable pub checkSays : State → ℕ → (truth : Bool) → List SheetEntry → Judgement
+checkSays d A truth es = unlessTurned (inOrder (d .book) A (gives acknowledged)) (judgedIn d A truth es)
+
+-- The maker answers how many entries it wrote. 28: no sheet was found for the claim; 25: the lent run is shorter than two entries for each literal
+unfoldable pub makeSays : (known room : ℕ) → (found : Bool) → (count : ℕ) → Said ℕ
+makeSays known room found count = cond found (cond (leb (2 * known) room) (gives count) (refused 25)) (refused 28)
+
+-- the lent entries afterwards: those after the entries that were written stay, and a refused call changes none
+abbrev pub entriesAfter : (fields : List ℕ) → List SheetEntry → Said ℕ → List SheetEntry
+entriesAfter fields before (gives n) = entriesIn fields n ++ drop n before
+entriesAfter fields before (refused number) = before

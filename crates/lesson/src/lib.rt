@@ -1,13 +1,15 @@
 // The calls on a lesson: each is a function of the shelf with the book, of the lesson beside it and of its arguments, whatever their bits. A call that
 // changes the facts returns its answer and the lesson, and a refused one the lesson that it was given; a call that only reads returns its answer alone.
 ghost use mathlib.Core.Path.{_≡_};
-ghost use Prim.Native.Nat.{_<_};
+ghost use Prim.Native.Nat.{_*_, _≤_, _<_};
 ghost use lib.ListN.{length};
+ghost use Rattle.sheet.specs.Flat.{entriesIn};
 ghost use Rattle.litset.specs.Words.{capacity, setOf, clashIn};
+ghost use Rattle.book.specs.Limits.{maxNames};
 ghost use Rattle.book.specs.Book.{namesOf, programOf};
 ghost use Rattle.search.specs.Questions.{treeOf, questionOf};
-ghost use Rattle.lesson.specs.State.{acknowledged, gives, inOrder, inForce, itsLiteral, changeFits, changeSays, changedSet, isClash};
-ghost use Rattle.lesson.specs.Calls.{shelfOf, ownOf, meaningOf, numberSays, Begins, MarksOf, MarksAfter, Changes, GivesVerdict, Searches, modelSaid, GivesModel, GivesOrder, GivesGroups, Lists, Previews};
+ghost use Rattle.lesson.specs.State.{acknowledged, gives, inOrder, inForce, itsLiteral, changeFits, changeSays, changedSet, isClash, makeSays};
+ghost use Rattle.lesson.specs.Calls.{shelfOf, ownOf, meaningOf, numberSays, Begins, MarksOf, MarksAfter, Changes, GivesVerdict, Searches, modelSaid, GivesModel, GivesOrder, GivesGroups, Lists, Previews, Checks, makeSaid, MakesTable};
 use book::Book;
 use fixpoint::Model;
 use fixpoint::Values;
@@ -18,6 +20,8 @@ use litset::Clash;
 use litset::LitSet;
 use reach::Order;
 use search::Tree;
+use sheet::Judgement;
+use sheet::Sheet;
 
 // The book, or none: `loaded` 0 says that there is none.
 #[repr(C)]
@@ -92,6 +96,17 @@ pub struct GroupsReply {
 pub enum ListingAnswer {
     Length(usize),
     Refused(u8),
+}
+
+pub enum MakeAnswer {
+    Written(usize),
+    Refused(u8),
+}
+
+// A sheet in a table, and how many entries of it are to be written. Where the call is refused none is.
+pub struct MakeReply {
+    pub answer: MakeAnswer,
+    pub sheet: Sheet,
 }
 
 // ---- the lesson
@@ -352,4 +367,56 @@ pub fn preview(s: Shelf, l: Lesson, change: Change, buffer: &mut [u8]) -> Listin
             return ListingAnswer::Refused(number);
         }
     }
+}
+
+// ---- proof sheets
+
+// Whether the first n entries of a sheet show the claim that a literal is true, or that it is false. It holds of M and N of the lesson's program, contradictory
+// or not, and reads neither.
+pub fn check_sheet(
+    s: Shelf,
+    l: Lesson,
+    literal: usize,
+    truth: bool,
+    n: usize,
+    sheet: Sheet,
+) -> Judgement
+    ensures { λ r. ⌜ Checks s l literal truth (entriesIn (sheet .fields) n) r ⌝ }
+{
+    let number = state_refusal(s, literal);
+    if number != 0 {
+        return Judgement::Refused { number, index: 0 };
+    }
+    sheet::judge(s.book, in_force(l), literal, truth, n, sheet)
+}
+
+// What the maker answers in a book of so many names, once the state turns nothing down.
+fn make_answer(names: usize, room: usize, found: bool, count: usize) -> MakeAnswer
+    requires { ⌜ names ≤ maxNames ⌝ }
+    ensures { λ r. ⌜ makeSaid r ≡ makeSays (2 * names) room found count ⌝ }
+{
+    if !found {
+        return MakeAnswer::Refused(28);
+    }
+    if room < 4 * names {
+        return MakeAnswer::Refused(25);
+    }
+    MakeAnswer::Written(count)
+}
+
+// A sheet for the claim that a literal is true, or that it is false, for a lent run with room for so many entries.
+pub fn make_sheet(s: Shelf, l: Lesson, literal: usize, truth: bool, room: usize) -> MakeReply
+    ensures { λ r. ⌜ MakesTable s l literal truth room r ⌝ }
+{
+    let number = state_refusal(s, literal);
+    if number != 0 {
+        return MakeReply {
+            answer: MakeAnswer::Refused(number),
+            sheet: sheet::blank(),
+        };
+    }
+    let made = maker::make(s.book, in_force(l), literal, truth);
+    let answer = make_answer(book::name_count(s.book), room, made.found, made.count);
+    let sheet = made.sheet;
+    MakeReply { answer, sheet }
 }

@@ -25,10 +25,10 @@ use Rattle.book.specs.Book.{rows, clamp, literalIn, entryOf, bodyAt, ruleAt, ru
 use Rattle.book.specs.declared.Book.{Book}
 use Rattle.book.proofs.Heads.{entry-below, program-of}
 use Rattle.book.proofs.Rows.{rows-none, rows-length, rows-map}
-use Rattle.sheet.specs.Sheet.{maxSheet, shown, listed, trueFollows, falseFollows, namesRule, factNumber, everyRule, answered, among, kindOf, judgement, judgedBy, accepted, ruleNumbered}
+use Rattle.sheet.specs.Sheet.{maxSheet, shown, listed, trueFollows, falseFollows, namesRule, factNumber, everyRule, answered, among, kindOf, judgement, judgedBy, accepted, ruleNumbered, IsSo}
 use Rattle.sheet.specs.Flat.{entryIn, entriesIn}
 use Rattle.sheet.specs.declared.SheetEntry.{SheetEntry}
-use Rattle.maker.specs.Making.{Within, IsSo, MadeFor, fromOn, memberEntry, adds, ruleEntry, passed, withLiterals, Passes, none-yet, one-more}
+use Rattle.maker.specs.Making.{Within, MadeFor, fromOn, memberEntry, adds, ruleEntry, passed, withLiterals, Passes, none-yet, one-more}
 use Rattle.maker.proofs.Counted.{sizeBelow, size-apart, members-same}
 use Rattle.maker.proofs.Stands.{Stands, stands-none, stands-true, stands-group, stands-follows}
 use Rattle.maker.proofs.Complete.{group-follows, known-only, all-true, all-false}

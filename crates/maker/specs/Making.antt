@@ -4,12 +4,12 @@ use mathlib.Core.Bool.{Bool, true, false, not, cond, _&&_}
 use mathlib.Core.List.{List, [], _∷_, _++_}
 use Prim.Native.Nat.{ℕ, suc, _*_, _≤_, _<_}
 use lib.Dec.{eqb, ltb, leb}
-use Rattle.wfsx.specs.Sets.{Set, _∈_, _∉_, add, _isIn_}
+use Rattle.wfsx.specs.Sets.{Set, add, _isIn_}
 use Rattle.wfsx.specs.Program.{Rule, Program, positive, default}
-use Rattle.wfsx.specs.Model.{every, M, N}
+use Rattle.wfsx.specs.Model.{every}
 use Rattle.litset.specs.Words.{room}
 use Rattle.book.specs.Book.{program}
-use Rattle.sheet.specs.Sheet.{shown, factNumber, judgement, accepted}
+use Rattle.sheet.specs.Sheet.{shown, factNumber, judgement, accepted, IsSo}
 use Rattle.sheet.specs.Flat.{entriesIn}
 use Rattle.sheet.specs.declared.SheetEntry.{SheetEntry}
 use Rattle.maker.specs.declared.Made.{Made}
@@ -19,11 +19,6 @@ pub record Within (n : ℕ) (P : Program) : Type 0 where
   pub heads-below : (r : Rule) → r isIn P → r .head < n
   pub positive-below : (r : Rule) → r isIn P → (B : ℕ) → positive B isIn r .body → B < n
   pub default-below : (r : Rule) → r isIn P → (C : ℕ) → default C isIn r .body → C < n
-
--- a claim is so: "true" of a literal in M, "false" of one outside N
-abbrev pub IsSo : Program → Bool → ℕ → Type 0
-IsSo P true A = A ∈ M P
-IsSo P false A = A ∉ N P
 
 -- What is made for a claim. Which sheet it is, is the program's choice: it has at most two entries for each known literal, the check accepts it where one was found,
 -- and one is found for every claim that is so, where all literals of the program are known.

@@ -6,15 +6,13 @@ ghost use mathlib.Core.List.{[], map, _++_};
 ghost use Prim.Native.Nat.{_+_, _*_, _≤_, _<_};
 ghost use lib.ListN.{length};
 ghost use Rattle.wfsx.specs.Sets.{members};
-ghost use Rattle.wfsx.specs.Model.{every};
 ghost use Rattle.litset.specs.Words.{capacity, setOf};
 ghost use Rattle.book.specs.Limits.{maxNames, maxRules};
-ghost use Rattle.book.specs.Book.{entryIs, bodyOf, ruleAt, rulesIn, rulesOf, namesOf};
-ghost use Rattle.sheet.specs.Sheet.{maxSheet, shown};
+ghost use Rattle.book.specs.Book.{ruleAt, rulesIn, rulesOf, namesOf};
+ghost use Rattle.sheet.specs.Sheet.{maxSheet};
 ghost use Rattle.sheet.specs.Flat.{entriesIn};
 ghost use Rattle.maker.specs.Making.{MadeFor, fromOn, memberEntry, adds, passed, withLiterals, Passes};
 use book::Book;
-use book::Entry;
 use litset::LitSet;
 use sheet::Sheet;
 use sheet::SheetEntry;
@@ -92,31 +90,6 @@ fn put_members(
 
 // ---- rules
 
-// Whether an entry of a body is shown by the literals t and f of earlier "true" and "false" entries.
-fn entry_shown(e: Entry, t: LitSet, f: LitSet) -> bool
-    ensures { λ r. ⌜ r ≡ shown (setOf (t .words)) (setOf (f .words)) (entryIs e) ⌝ }
-{
-    match e {
-        Entry::Positive(b) => litset::contains(t, b),
-        Entry::Default(c) => litset::contains(f, c),
-    }
-}
-
-// Whether the body of rule r is shown.
-fn body_shown<'a>(starts: &'a [u16], entries: &'a [u16], r: usize, t: LitSet, f: LitSet) -> bool
-    ensures { λ x. ⌜ x ≡ every (shown (setOf (t .words)) (setOf (f .words))) (bodyOf (now (starts .entry)) (now (entries .entry)) r) ⌝ }
-{
-    let mut j = book::body_start(starts, r);
-    let end = book::body_end(starts, entries, r);
-    while j < end {
-        if !entry_shown(book::entry_at(entries, j), t, f) {
-            return false;
-        }
-        j += 1;
-    }
-    true
-}
-
 // Whether rule r adds its head to t.
 fn rule_adds<'a>(
     heads: &'a [u16],
@@ -136,7 +109,7 @@ fn rule_adds<'a>(
     if litset::contains(t, head) {
         return false;
     }
-    body_shown(starts, entries, r, t, f)
+    sheet::body_as(starts, entries, r, t, f, true)
 }
 
 // How many entries there are, and the literals of the "true" ones.

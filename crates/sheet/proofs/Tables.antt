@@ -85,6 +85,14 @@ module _ {heads starts entries : List ℕ} {f : Entry → Bool} {X₀ : Set} whe
 
 -- ---- the rules left open
 
+-- an entry as it is shown
+pub is-shown : (T F : Set) → (λ (e : Entry). Bool·beq (shown T F e) true) ≡ shown T F
+is-shown T F = fun-ext (λ e. same (shown T F e))
+  where
+    same : (b : Bool) → Bool·beq b true ≡ b
+    same true = refl
+    same false = refl
+
 -- an entry that is not shown over D and T holds over what is outside D, and over T
 pub not-shown : (T D : Set) → (λ (e : Entry). Bool·beq (shown D T e) false) ≡ holds (beyond D) T
 not-shown T D = fun-ext go
@@ -175,11 +183,7 @@ module _ (heads starts entries : List ℕ) (T F : Set) (A k : ℕ) where
     names-other ne = sym (named ∙ rw (ne-eqb n A ne) refl)
 
     pub names-body : n ≡ A → every (λ (e : Entry). Bool·beq (shown T F e) true) (bodyOf starts entries k) ≡ ruleNumbered (showsFor T F A) (allRules heads starts entries) k
-    names-body e = ap (λ (f : Entry → Bool). every f (bodyOf starts entries k)) (fun-ext (λ x. is-same (shown T F x))) ∙ sym (named ∙ rw (eq-eqb n A e) refl)
-      where
-        is-same : (b : Bool) → Bool·beq b true ≡ b
-        is-same true = refl
-        is-same false = refl
+    names-body e = ap (λ (f : Entry → Bool). every f (bodyOf starts entries k)) (is-shown T F) ∙ sym (named ∙ rw (eq-eqb n A e) refl)
 
 -- ---- a "true" entry
 

@@ -140,7 +140,7 @@ fn entry_as(e: Entry, d: LitSet, s: LitSet, want: bool) -> bool
 }
 
 // Whether it is for every entry of the body of rule r. A body is shown where all answers are yes, and a rule left open where all are no.
-fn body_as<'a>(
+pub fn body_as<'a>(
     starts: &'a [u16],
     entries: &'a [u16],
     r: usize,
