@@ -78,16 +78,20 @@ number-refused n z = ap (λ (t : Bool). cond t (gives acknowledged) (refused n))
 pub number-given : (n : ℕ) → n ≡ 0 → numberSays n ≡ gives acknowledged
 number-given n z = ap (λ (t : Bool). cond t (gives acknowledged) (refused n)) (eq-eqb n 0 z)
 
+-- what 20 or 21 turns down is turned down whatever fits the call
+pub turned-so : {X : Type 0} (b : BookState) (A n : ℕ) → inOrder b A (gives acknowledged) ≡ refused n → (said : Said X) → refused n ≡ inOrder b A said
+unfolding inOrder ifLoaded
+turned-so {X} b A n e said = go (noneLoaded b) (inBook b A) (sym e)
+  where
+    go : (a i : Bool) → _≡_ {A = Said Ack} (refused n) (cond a (refused 20) (cond i (gives acknowledged) (refused 21))) → _≡_ {A = Said X} (refused n) (cond a (refused 20) (cond i said (refused 21)))
+    go true i h = ap refused (refused-same n 20 h)
+    go false true h = absurd (given-refused acknowledged n (sym h))
+    go false false h = ap refused (refused-same n 21 h)
+
 module _ (b : BookState) (A n : ℕ) (e : numberSays n ≡ inOrder b A (gives acknowledged)) where
   -- a number of the state decides before whatever fits the call
   pub turned-down : {X : Type 0} (said : Said X) → (n ≡ 0 → ⊥) → refused n ≡ inOrder b A said
-  unfolding inOrder ifLoaded
-  turned-down {X} said z = go (noneLoaded b) (inBook b A) (sym (number-refused n z) ∙ e)
-    where
-      go : (a i : Bool) → _≡_ {A = Said Ack} (refused n) (cond a (refused 20) (cond i (gives acknowledged) (refused 21))) → _≡_ {A = Said X} (refused n) (cond a (refused 20) (cond i said (refused 21)))
-      go true i h = ap refused (refused-same n 20 h)
-      go false true h = absurd (given-refused acknowledged n (sym h))
-      go false false h = ap refused (refused-same n 21 h)
+  turned-down said z = turned-so b A n (sym e ∙ number-refused n z) said
 
   -- where the state turns nothing down, the call says what fits it
   pub state-passed : n ≡ 0 → (noneLoaded b ≡ false) × (A ∈ inBook b)

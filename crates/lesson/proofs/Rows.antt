@@ -27,21 +27,21 @@ use Rattle.lesson.proofs.Marks.{contradictory-at}
 abbrev pub By : {X : Type 0} → Said X → List Row → Type 0
 By said rows = (number : ℕ) → (said ≡ refused number) ↔ First number rows
 
-met : {X : Type 0} (n : ℕ) (C : Type 0) (rows : List Row) (said : Said X) → C → said ≡ refused n → By said ((n, C) ∷ rows)
+pub met : {X : Type 0} (n : ℕ) (C : Type 0) (rows : List Row) (said : Said X) → C → said ≡ refused n → By said ((n, C) ∷ rows)
 met {X} n C rows said c e k = (λ h. inl (refused-same k n (sym h ∙ e), c), back)
   where
     back : First k ((n, C) ∷ rows) → said ≡ refused k
     back (inl w) = rw (w .0) e
     back (inr w) = absurd (w .0 c)
 
-unmet : {X : Type 0} (n : ℕ) (C : Type 0) (rows : List Row) (said : Said X) → (C → ⊥) → By said rows → By said ((n, C) ∷ rows)
+pub unmet : {X : Type 0} (n : ℕ) (C : Type 0) (rows : List Row) (said : Said X) → (C → ⊥) → By said rows → By said ((n, C) ∷ rows)
 unmet {X} n C rows said never by k = (λ h. inr (never, by k .0 h), back)
   where
     back : First k ((n, C) ∷ rows) → said ≡ refused k
     back (inl w) = absurd (never (w .1))
     back (inr w) = by k .1 (w .1)
 
-given-by : {X : Type 0} (x : X) (said : Said X) → said ≡ gives x → By said []
+pub given-by : {X : Type 0} (x : X) (said : Said X) → said ≡ gives x → By said []
 given-by x said e k = (λ h. given-refused x k (sym e ∙ h), λ w. absurd w)
 
 not-unloaded : (names : List (List ℕ)) (rules : List Rule) → _≡_ {A = BookState} (loaded-with names rules) unloaded → ⊥
@@ -57,7 +57,7 @@ loaded-by {X} d rows said by = go (d .book) refl
         unmet 20 (NoBook d) rows _ (λ h. not-unloaded names rules (sym e ∙ h)) (rw (loaded-says (d .book) said (ap noneLoaded e)) by)
 
 -- 20, then 21
-order-by : {X : Type 0} (d : State) (A : ℕ) (rows : List Row) (fits : Said X) → (A ∈ inBook (d .book) → By fits rows) → By (inOrder (d .book) A fits) ((20, NoBook d) ∷ (21, NotBelow d A) ∷ rows)
+pub order-by : {X : Type 0} (d : State) (A : ℕ) (rows : List Row) (fits : Said X) → (A ∈ inBook (d .book) → By fits rows) → By (inOrder (d .book) A fits) ((20, NoBook d) ∷ (21, NotBelow d A) ∷ rows)
 unfolding inOrder inBook
 order-by {X} d A rows fits by = loaded-by d ((21, NotBelow d A) ∷ rows) _ (go (decided (inBook (d .book) A)))
   where

@@ -1,4 +1,4 @@
--- What a list of calls leaves is sound: heads and facts are literals of its book, which has no more names than a table. So its program is one over the
+-- What a list of calls leaves is sound: heads, bodies and facts are of literals of its book, which has no more names than a table. So its program is one over the
 -- literals of the book, and has room in a set.
 use mathlib.Core.Path.{_≡_, refl, sym, _∙_}
 use mathlib.Core.Bool.{not, true≢false}
@@ -10,7 +10,7 @@ use lib.Dec.{eqb}
 use lib.ListN.{length}
 use borrow.Author.Tests.{eqb-true, ltb-true, lt-ltb}
 use Rattle.wfsx.specs.Sets.{_∈_, _isIn_, members}
-use Rattle.wfsx.specs.Program.{Rule, fact}
+use Rattle.wfsx.specs.Program.{Entry, positive, default, Rule, fact}
 use Rattle.wfsx.specs.Model.{Heads⊆, headCount}
 use Rattle.wfsx.specs.Rounds.{rounds}
 use Rattle.wfsx.proofs.Members.{members-are}
@@ -21,7 +21,9 @@ use Rattle.truth.proofs.Truth.{and-l, or-elim}
 use Rattle.litset.specs.Words.{room, capacity}
 use Rattle.litset.proofs.Words.{without-at}
 use Rattle.book.specs.Limits.{maxNames}
-use Rattle.lesson.specs.State.{unloaded, loaded-with, State, emptied, itsNames, itsRules, inForce, programIn, inBook, ContradictoryOver, Said, gives, refused, Ack, itsLiteral, changeSays, changedSet, changed, unlessRefused, stateAfter}
+use Rattle.book.specs.Book.{literalIn}
+use Rattle.maker.specs.Making.{Within}
+use Rattle.lesson.specs.State.{unloaded, loaded-with, State, emptied, itsNames, itsRules, inForce, programIn, inBook, ContradictoryOver, Said, gives, refused, Ack, itsLiteral, changeSays, changedSet, changed, unlessRefused, stateAfter, knownIn}
 use Rattle.lesson.specs.declared.Change.{Change}
 use Rattle.lesson.specs.declared.Change.the-variants.{PutIn, TakeOut}
 use Rattle.lesson.proofs.Order.{given-inside}
@@ -29,6 +31,7 @@ use Rattle.lesson.proofs.Order.{given-inside}
 pub record Sound (d : State) : Type 0 where
   pub few-names : length (itsNames (d .book)) ≤ maxNames
   pub heads-known : (r : Rule) → r isIn itsRules (d .book) → r .head ∈ inBook (d .book)
+  pub bodies-known : (r : Rule) → r isIn itsRules (d .book) → (e : Entry) → e isIn r .body → literalIn e ∈ inBook (d .book)
   pub facts-known : (A : ℕ) → A ∈ inForce (d .own) → A ∈ inBook (d .book)
 
 -- ---- where it comes from
@@ -36,15 +39,21 @@ pub record Sound (d : State) : Type 0 where
 pub sound-nothing : Sound (record { book = unloaded; own = emptied })
 unfolding inForce
 sound-nothing =
-    record { few-names = omega arith; heads-known = λ r i. absurd (List·Memᴰ·not-nil i); facts-known = λ A h. absurd (true≢false (sym h)) }
+    record {
+      few-names = omega arith;
+      heads-known = λ r i. absurd (List·Memᴰ·not-nil i);
+      bodies-known = λ r i. absurd (List·Memᴰ·not-nil i);
+      facts-known = λ A h. absurd (true≢false (sym h));
+    }
 
 pub sound-book : (names : List (List ℕ)) (rules : List Rule) → length names ≤ maxNames → ((r : Rule) → r isIn rules → r .head < 2 * length names)
-    → Sound (record { book = loaded-with names rules; own = emptied })
+    → ((r : Rule) → r isIn rules → (e : Entry) → e isIn r .body → literalIn e < 2 * length names) → Sound (record { book = loaded-with names rules; own = emptied })
 unfolding inForce inBook
-sound-book names rules few heads =
+sound-book names rules few heads bodies =
     record {
       few-names = few;
       heads-known = λ r i. lt-ltb (r .head) (2 * length names) (heads r i);
+      bodies-known = λ r i e m. lt-ltb (literalIn e) (2 * length names) (bodies r i e m);
       facts-known = λ A h. absurd (true≢false (sym h));
     }
 
@@ -63,6 +72,7 @@ sound-change c d s = go (changeSays d c) refl
         record {
           few-names = s .few-names;
           heads-known = s .heads-known;
+          bodies-known = s .bodies-known;
           facts-known = changed-from c d (s .facts-known) (given-inside (d .book) (itsLiteral c) _ x e .1);
         }
     go (refused n) e = s
@@ -92,6 +102,25 @@ module _ (d : State) (s : Sound d) where
   head-below : (A : ℕ) → A isIn heads (programIn d) → A < 2 * length (itsNames (d .book))
   unfolding inBook
   head-below A m = ltb-true A (2 * length (itsNames (d .book))) (heads-in (programIn d) (inBook (d .book)) heads-in-book A m)
+
+  -- all its literals are literals of the book
+  pub literals-within : Within (knownIn (d .book)) (programIn d)
+  unfolding inBook programIn
+  literals-within =
+      record {
+        heads-below = λ r m. below (r .head) (heads-in-book r m);
+        positive-below = λ r m B i. below B (in-body r m (positive B) i);
+        default-below = λ r m C i. below C (in-body r m (default C) i);
+      }
+    where
+      below : (A : ℕ) → A ∈ inBook (d .book) → A < knownIn (d .book)
+      below A i = ltb-true A (knownIn (d .book)) i
+
+      in-body : (r : Rule) → r isIn programIn d → (e : Entry) → e isIn r .body → literalIn e ∈ inBook (d .book)
+      in-body r m e i = ⊎-elim (λ q. s .bodies-known r q e i) of-fact (List·Memᴰ·append-cases (itsRules (d .book)) m)
+        where
+          of-fact : r isIn map fact (members capacity (inForce (d .own))) → literalIn e ∈ inBook (d .book)
+          of-fact q = let w = Memᴰ·of-map fact (members capacity (inForce (d .own))) q in absurd (List·Memᴰ·not-nil (rw (← w .2) at i))
 
   head-in-room : (A : ℕ) → A isIn heads (programIn d) → A < capacity
   head-in-room A m = ltb-true A capacity (heads-in (programIn d) room heads-in-room A m)

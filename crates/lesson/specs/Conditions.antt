@@ -61,10 +61,15 @@ abbrev pub FaultAt : State → List SheetEntry → ℕ → Type 0
 FaultAt d es i = fault (itsRules (d .book)) (inForce (d .own)) (knownIn (d .book)) es ≡ at i
 
 -- 28: the claim isn't among the entries
+abbrev pub sheetRows : State → ℕ → Bool → List SheetEntry → List Row
+sheetRows d A truth es = (26, Miscounted es) ∷ (27, (i : ℕ) × FaultAt d es i) ∷ (28, among (kindOf truth) A es ≡ false) ∷ []
+
 abbrev pub checkRows : State → ℕ → Bool → List SheetEntry → List Row
-checkRows d A truth es =
-    (20, NoBook d) ∷ (21, NotBelow d A) ∷ (26, Miscounted es) ∷ (27, (i : ℕ) × FaultAt d es i) ∷ (28, among (kindOf truth) A es ≡ false) ∷ []
+checkRows d A truth es = (20, NoBook d) ∷ (21, NotBelow d A) ∷ sheetRows d A truth es
 
 -- the maker: 28: the claim isn't so; 25: the lent run is shorter than two entries for each literal
+abbrev pub claimRows : State → ℕ → Bool → List SheetEntry → List Row
+claimRows d A truth run = (28, IsSo (programIn d) truth A → ⊥) ∷ (25, length run < 2 * knownIn (d .book)) ∷ []
+
 abbrev pub makeRows : State → ℕ → Bool → List SheetEntry → List Row
-makeRows d A truth run = (20, NoBook d) ∷ (21, NotBelow d A) ∷ (28, IsSo (programIn d) truth A → ⊥) ∷ (25, length run < 2 * knownIn (d .book)) ∷ []
+makeRows d A truth run = (20, NoBook d) ∷ (21, NotBelow d A) ∷ claimRows d A truth run

@@ -17,7 +17,7 @@ judge-requires : tie.Need-judge-requires
 judge-requires c κs = search needs
 
 returns-2 : tie.Need-returns-2
-returns-2 c = 
+returns-2 c =
     let forced = c .before in
     check-given _ _ _ _ (forced .before .before .state-refusal .ensures) _ (forced .before .if1 .left) _ _ (forced .in-force .ensures) _ (c .judge .ensures)
 

@@ -31,7 +31,7 @@ make-answer-requires : tie.Need-make-answer-requires
 make-answer-requires c κs = search needs
 
 returns-2 : tie.Need-returns-2
-returns-2 c = 
+returns-2 c =
     let answered = c .before in
     let made = answered .before .before in
     let forced = made .before in
