@@ -9,11 +9,11 @@ use Rattle.fixpoint.specs.Result.{ModelOf}
 use Rattle.calls.specs.Lists.{afterAll}
 use Rattle.calls.proofs.Lists.{run-means}
 use Rattle.desk.specs.Calls.{stateOf, Fresh}
-use Rattle.desk.specs.Runs.{Call, load, change, verdict, search-for, model, working-order, model-by-groups, listing, preview, specOf, left, Run}
+use Rattle.desk.specs.Runs.{Call, load, change, verdict, search-for, model, working-order, model-by-groups, listing, preview, check-sheet, make-sheet, specOf, left, Run}
 use Rattle.desk.specs.declared.Desk.{Desk}
 use Rattle.desk.proofs.Laws.{Good, DeskLaws}
 use Rattle.desk.proofs.LoadLaws.{fresh-means, fresh-good, load-laws}
-use Rattle.desk.proofs.LessonLaws.{change-laws, verdict-laws, search-laws, model-laws, order-laws, groups-laws, listing-laws, preview-laws}
+use Rattle.desk.proofs.LessonLaws.{change-laws, verdict-laws, search-laws, model-laws, order-laws, groups-laws, listing-laws, preview-laws, check-laws, make-laws}
 
 pub lawsOf : (c : Call) → DeskLaws (specOf c)
 lawsOf (load file) = load-laws file
@@ -25,6 +25,8 @@ lawsOf working-order = order-laws
 lawsOf model-by-groups = groups-laws
 lawsOf (listing buffer) = listing-laws buffer
 lawsOf (preview c buffer) = preview-laws c buffer
+lawsOf (check-sheet A truth es) = check-laws A truth es
+lawsOf (make-sheet A truth run) = make-laws A truth run
 
 module _ (cs : List Call) (start end : Desk) (f : Fresh start) (run : Run start cs end) where
   pub left-means : stateOf end ≡ left cs

@@ -6,6 +6,7 @@ use mathlib.Core.Logic.{_↔_}
 use Prim.Native.Nat.{ℕ}
 use Rattle.wfsx.specs.Trees.{Tree}
 use Rattle.search.specs.Questions.{questionOf}
+use Rattle.sheet.specs.declared.SheetEntry.{SheetEntry}
 use Rattle.lesson.specs.State.{State}
 use Rattle.lesson.specs.declared.Lesson.{Lesson}
 use Rattle.lesson.specs.declared.Change.{Change}
@@ -15,9 +16,10 @@ use Rattle.lesson.proofs.Standing.{change-stands}
 use Rattle.lesson.proofs.ChangeLaws.{change-means, change-kept, change-exists}
 use Rattle.lesson.proofs.Exists.{verdict-exists, search-exists, model-reply-exists, order-exists, groups-exists, listing-exists}
 use Rattle.lesson.proofs.Listings.{listing-unwritten, listing-turned, preview-unwritten, preview-turned, preview-exists}
+use Rattle.lesson.proofs.Sheets.{check-by, make-by, make-unwritten, check-exists, make-exists}
 use Rattle.calls.specs.Lists.{CallSpec}
 use Rattle.desk.specs.Calls.{stateOf}
-use Rattle.desk.specs.Runs.{change, verdict, search-for, model, working-order, model-by-groups, listing, preview, specOf}
+use Rattle.desk.specs.Runs.{change, verdict, search-for, model, working-order, model-by-groups, listing, preview, check-sheet, make-sheet, specOf}
 use Rattle.desk.specs.declared.Desk.{Desk}
 use Rattle.desk.proofs.Laws.{Good, DeskLaws}
 
@@ -132,4 +134,26 @@ preview-laws c buffer =
       exactly = λ k r g h number line. preview-turned (k .shelf) (k .lesson) c buffer (r .0) (r .1) h (g .stands) number;
       unwritten = λ k r h number line e. preview-unwritten (k .shelf) (k .lesson) c buffer (r .0) (r .1) h number e;
       replies = λ k g. let w = preview-exists (k .shelf) (k .lesson) c buffer (g .sound) in ((w .0, w .1), w .2);
+    })
+
+pub check-laws : (A : ℕ) (truth : Bool) (es : List SheetEntry) → DeskLaws (specOf (check-sheet A truth es))
+check-laws A truth es =
+    reading
+    (record {
+      stays = λ d. refl;
+      leaves = λ k r. refl;
+      exactly = λ k r g h number line. rw (h .says) (check-by (stateOf k) A truth es number);
+      unwritten = λ k r h number line e. record {};
+      replies = λ k g. check-exists (k .shelf) (k .lesson) A truth es;
+    })
+
+pub make-laws : (A : ℕ) (truth : Bool) (run : List SheetEntry) → DeskLaws (specOf (make-sheet A truth run))
+make-laws A truth run =
+    reading
+    (record {
+      stays = λ d. refl;
+      leaves = λ k r. refl;
+      exactly = λ k r g h number line. make-by (k .shelf) (k .lesson) A truth run (r .0) (r .1) h (g .sound) number;
+      unwritten = λ k r h number line e. make-unwritten (k .shelf) (k .lesson) A truth run (r .0) (r .1) h number e;
+      replies = λ k g. let w = make-exists (k .shelf) (k .lesson) A truth (g .sound) run in ((w .0, w .1), w .2);
     })

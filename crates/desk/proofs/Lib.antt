@@ -7,6 +7,7 @@ pub mod Demand1
 pub mod Demand2
 pub mod Demand3
 pub mod Answers
+pub mod Sheets
 pub mod Exists
 pub mod AnswerSets
 pub mod Cases

@@ -65,7 +65,7 @@ module _ (file : List ℕ) (names : List (List ℕ)) (rules : List Rule) (e : re
   accepted-good =
       let w = accepted-within file names rules e in
       record {
-        sound = rw accepted-means (sound-book names rules (w .few-names) (w .heads-known));
+        sound = rw accepted-means (sound-book names rules (w .few-names) (w .heads-known) (w .entries-known));
         stands = rw (h .shelf-is) (begin-loaded (record { loaded = 1; book = bookOf names rules }) (k .lesson) (h .lesson-begins) some);
       }
 

@@ -29,7 +29,7 @@ use Rattle.lesson.proofs.Order.{name-inside}
 use Rattle.lesson.proofs.Sound.{heads-in-book, heads-in-room}
 use Rattle.lesson.proofs.Standing.{listing-is}
 use Rattle.calls.specs.Lists.{afterAll}
-use Rattle.desk.specs.Runs.{Call, load, change, verdict as verdict-of, search-for, model, working-order, model-by-groups, listing, preview, nothing, afterLoad, specOf, left}
+use Rattle.desk.specs.Runs.{Call, load, change, verdict as verdict-of, search-for, model, working-order, model-by-groups, listing, preview, check-sheet, make-sheet, nothing, afterLoad, specOf, left}
 use Rattle.desk.specs.Spelling.{fieldAt, declaringField, Spelled}
 use Rattle.desk.proofs.Exists.{left-sound}
 use Rattle.desk.proofs.Parted.{Plain, AllPlain, mark-plain, names-plain, line-fields, rounds-in-header, name-in-header}
@@ -56,6 +56,8 @@ module _ (names : List (List ℕ)) (rules : List Rule) where
   by-call d model-by-groups e = inl e
   by-call d (listing buffer) e = inl e
   by-call d (preview c buffer) e = inl e
+  by-call d (check-sheet A truth es) e = inl e
+  by-call d (make-sheet A truth run) e = inl e
 
   -- the book was there before the list, or one of its calls loads it
   by-list : (d : State) (cs : List Call) → afterAll specOf d cs .book ≡ loaded-with names rules

@@ -1,11 +1,11 @@
 -- The calls of a desk, each as one record: what a list of them leaves by its arguments alone (document 01, "What a list of calls leaves"), and what a run
--- of it is. Then what the three demands, and requests A.7 and A.14 of document 02, say of a reply.
+-- of it is. Then what the three demands, and requests A.3, A.7 and A.14 of document 02, say of a reply.
 use mathlib.Core.Path.{_≡_}
 use mathlib.Core.Logic.{_↔_}
 use mathlib.Core.Bool.{Bool, true, false}
 use mathlib.Core.List.{List, _++_}
-use Prim.Native.Nat.{ℕ, _≤_, _<_}
-use lib.ListN.{length, drop}
+use Prim.Native.Nat.{ℕ, _*_, _≤_, _<_}
+use lib.ListN.{length, take, drop}
 use Rattle.wfsx.specs.Sets.{Set, _∈_, _∉_, _⊆_, _∖_}
 use Rattle.wfsx.specs.Program.{Program}
 use Rattle.wfsx.specs.Model.{M, N, PartialStable, valueIn}
@@ -22,9 +22,13 @@ use Rattle.reader.specs.File as reader
 use Rattle.reader.specs.Conditions.{Row, First, IsRefused}
 use Rattle.reader.specs.declared.Answer.the-variants as reading
 use Rattle.fixpoint.specs.Result.{ModelOf}
-use Rattle.lesson.specs.State.{unloaded, loaded-with, emptied, State, programIn, inBook, ContradictoryOver, listingIn, Said, gives, refused, stateAfter}
-use Rattle.lesson.specs.Calls.{changeSaid, Changes, verdictSaid, GivesVerdict, searchSaid, Searches, modelSaid, GivesModel, orderSaid, GivesOrder, GivesGroups, listingSaid, Lists, Previews}
-use Rattle.lesson.specs.Conditions.{changeRows, verdictRows, searchRows, bookRows, listingRows, previewRows}
+use Rattle.sheet.specs.Sheet.{accepted as is-accepted, IsSo}
+use Rattle.sheet.specs.Answers.{judgementOf}
+use Rattle.sheet.specs.declared.SheetEntry.{SheetEntry}
+use Rattle.sheet.specs.declared.Judgement.{Judgement}
+use Rattle.lesson.specs.State.{unloaded, loaded-with, emptied, State, programIn, inBook, ContradictoryOver, listingIn, Said, gives, refused, stateAfter, knownIn, judgementSays, checkSays}
+use Rattle.lesson.specs.Calls.{changeSaid, Changes, verdictSaid, GivesVerdict, searchSaid, Searches, modelSaid, GivesModel, orderSaid, GivesOrder, GivesGroups, listingSaid, Lists, Previews, Checks, makeSaid, Makes}
+use Rattle.lesson.specs.Conditions.{changeRows, verdictRows, searchRows, bookRows, listingRows, previewRows, checkRows, makeRows}
 use Rattle.lesson.specs.declared.Shelf.{Shelf}
 use Rattle.lesson.specs.declared.Lesson.{Lesson}
 use Rattle.lesson.specs.declared.Change.{Change}
@@ -35,13 +39,15 @@ use Rattle.lesson.specs.declared.ModelReply.{ModelReply}
 use Rattle.lesson.specs.declared.OrderReply.{OrderReply}
 use Rattle.lesson.specs.declared.GroupsReply.{GroupsReply}
 use Rattle.lesson.specs.declared.ListingAnswer.{ListingAnswer}
+use Rattle.lesson.specs.declared.MakeAnswer.{MakeAnswer}
 use Rattle.calls.specs.Lists.{CallSpec, afterAll, RunOf}
 use Rattle.desk.specs.Calls.{Loads}
 use Rattle.desk.specs.declared.Desk.{Desk}
 use Rattle.desk.specs.declared.LoadReply.{LoadReply}
 
 -- A call with its arguments. A load has the bytes of its file, a listing and a preview those of the lent buffer; a change puts a literal in or takes it out, and
--- a preview has the change that it tries; a search has a literal number, whether `~` stands before it, and T or TU.
+-- a preview has the change that it tries; a search has a literal number, whether `~` stands before it, and T or TU. The check of a sheet and its maker have a
+-- claim, which is a literal number with whether it is said to be true, and the entries of the lent run.
 pub data Call : Type 0 where
   load : List ℕ → Call
   change : Change → Call
@@ -52,6 +58,8 @@ pub data Call : Type 0 where
   model-by-groups : Call
   listing : List ℕ → Call
   preview : Change → List ℕ → Call
+  check-sheet : ℕ → (truth : Bool) → List SheetEntry → Call
+  make-sheet : ℕ → (truth : Bool) → List SheetEntry → Call
 
 -- ---- each call as one record
 
@@ -77,11 +85,11 @@ readingCall R Meets said rows =
       Unwritten = λ r. Unit;
     }
 
--- a call that reads and is lent a buffer: beside its answer stand the buffer's bytes afterwards
-abbrev pub lentCall : List ℕ → (R : Type 0) {X : Type 0} → (Shelf → Lesson → R → List ℕ → Type 0) → (R → Said X) → (State → List Row) → CallSpec Desk State
-lentCall buffer R Meets said rows =
+-- a call that reads and is lent a buffer: beside its answer stands what the buffer has afterwards, bytes or entries
+abbrev pub lentCall : {B : Type 0} → List B → (R : Type 0) {X : Type 0} → (Shelf → Lesson → R → List B → Type 0) → (R → Said X) → (State → List Row) → CallSpec Desk State
+lentCall {B} buffer R Meets said rows =
     record {
-      Reply = R × List ℕ;
+      Reply = R × List B;
       Meets = λ k r. Meets (k .shelf) (k .lesson) (r .0) (r .1);
       next = λ k r. k;
       after = λ d. d;
@@ -118,6 +126,8 @@ specOf working-order = readingCall OrderReply (λ s l r. GivesOrder s r) (λ r. 
 specOf model-by-groups = readingCall GroupsReply GivesGroups (λ r. modelSaid (r .answer)) bookRows
 specOf (listing buffer) = lentCall buffer ListingAnswer (λ s l r after. Lists s l buffer r after) listingSaid (λ d. listingRows d buffer)
 specOf (preview c buffer) = lentCall buffer ListingAnswer (λ s l r after. Previews s l c buffer r after) listingSaid (λ d. previewRows d c buffer)
+specOf (check-sheet A truth es) = readingCall Judgement (λ s l r. Checks s l A truth es r) (λ r. judgementSays (judgementOf r)) (λ d. checkRows d A truth es)
+specOf (make-sheet A truth run) = lentCall run MakeAnswer (λ s l r after. Makes s l A truth run r after) makeSaid (λ d. makeRows d A truth run)
 
 -- ---- lists
 
@@ -178,6 +188,20 @@ pub record ModelDue (d : State) (r : ModelReply) : Type 0 where
 pub record ListingDue (d : State) (buffer : List ℕ) (said : Said ℕ) (after : List ℕ) : Type 0 where
   pub fitting : length (listingIn d) ≤ length buffer → (said ≡ gives (length (listingIn d))) × (after ≡ listingIn d ++ drop (length (listingIn d)) buffer)
   pub short : length buffer < length (listingIn d) → (said ≡ refused 25) × (after ≡ buffer)
+
+-- ---- what is due of proof sheets (document 02, A.3)
+
+-- the check answers what the definition says, 27 with its index; a claim that it accepts is so
+pub record CheckDue (d : State) (A : ℕ) (truth : Bool) (es : List SheetEntry) (r : Judgement) : Type 0 where
+  pub says : judgementOf r ≡ checkSays d A truth es
+  pub sound : judgementOf r ≡ is-accepted → IsSo (programIn d) truth A
+
+-- the maker writes a sheet for every claim that is so, of at most two entries for each literal, which the check accepts; the entries after it stay
+pub record MakeDue (d : State) (A : ℕ) (truth : Bool) (run : List SheetEntry) (said : Said ℕ) (after : List SheetEntry) : Type 0 where
+  pub writes : IsSo (programIn d) truth A → 2 * knownIn (d .book) ≤ length run → (n : ℕ) × (said ≡ gives n)
+  pub few : (n : ℕ) → said ≡ gives n → n ≤ 2 * knownIn (d .book)
+  pub accepted : (n : ℕ) → said ≡ gives n → checkSays d A truth (take n after) ≡ is-accepted
+  pub rest : (n : ℕ) → said ≡ gives n → drop n after ≡ drop n run
 
 -- ---- what is due where the program has an answer set (document 02, A.14)
 
