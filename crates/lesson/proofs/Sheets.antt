@@ -9,7 +9,7 @@ use native.Mathlib.Omega.{arith}
 use lib.Dec.{eqb, ltb, leb}
 use lib.ListN.{length, take, drop}
 use lib.Seq.{take-at, drop-at}
-use borrow.Author.Tests.{le-leb, lt-leb, leb-true, leb-false, ltb-true, ltb-false}
+use borrow.Author.Tests.{lt-ltb, le-leb, lt-leb, leb-true, leb-false, ltb-true, ltb-false}
 use Rattle.truth.proofs.Truth.{clash, decided, and-l, and-r}
 use Rattle.wfsx.specs.Sets.{Set, _∈_, _isIn_}
 use Rattle.wfsx.specs.Program.{Rule, positive}
@@ -157,6 +157,36 @@ module _ (d : State) (A : ℕ) (truth : Bool) (es : List SheetEntry) where
   unfolding checkSays judgedIn
   check-passes x e h = rw e h
 
+-- beyond the most entries of a sheet the answer depends on their count alone
+pub check-length : (d : State) (A : ℕ) (truth : Bool) (es fs : List SheetEntry) → length es ≡ length fs → (length es ≤ maxSheet → es ≡ fs) → checkSays d A truth es ≡ checkSays d A truth fs
+unfolding checkSays judgedIn judgement
+check-length d A truth es fs e same = go (decided (leb (length es) maxSheet))
+  where
+    go : (leb (length es) maxSheet ≡ true) ⊎ (leb (length es) maxSheet ≡ false) → checkSays d A truth es ≡ checkSays d A truth fs
+    go (inl y) = ap (checkSays d A truth) (same (leb-true (length es) maxSheet y))
+    go (inr y) = let many = leb-false (length es) maxSheet y in rw (← e, y, lt-ltb 0 (length es) (omega arith)) refl
+
+-- ---- what the maker says
+
+said-count : (known room : ℕ) (found : Bool) (count n : ℕ) → makeSays known room found count ≡ gives n → (found ≡ true) × (count ≡ n) × (2 * known ≤ room)
+unfolding makeSays
+said-count known room found count n e = go found (leb (2 * known) room) refl e
+  where
+    go : (f t : Bool) → leb (2 * known) room ≡ t → cond f (cond t (gives count) (refused 25)) (refused 28) ≡ gives n → (f ≡ true) × (count ≡ n) × (2 * known ≤ room)
+    go true true y q = (refl, given-same count n q, leb-true (2 * known) room y)
+    go true false y q = absurd (given-refused n 25 (sym q))
+    go false t y q = absurd (given-refused n 28 (sym q))
+
+-- no more entries are written than there is room for
+pub make-within : (s : Shelf) (l : Lesson) (A : ℕ) (truth : Bool) (room : ℕ) (r : MakeReply) → MakesTable s l A truth room r → (n : ℕ) → makeSaid (r .answer) ≡ gives n → n ≤ room
+make-within s l A truth room r h n e = go (inOrder (shelfOf s) A (gives acknowledged)) (h .unless)
+  where
+    go : (said : Said Ack) → MakesUnless said s l A truth room r → n ≤ room
+    go (refused m) w = absurd (given-refused n m (sym e ∙ w))
+    go (gives x) w =
+        let fits = said-count (knownIn (shelfOf s)) room (w .made .found) (w .made .count) n (sym (w .says) ∙ e) in
+        omega (arith, fits .1, fits .2, w .made-for .few)
+
 -- ---- when the maker is turned down
 
 module _ (s : Shelf) (l : Lesson) (A : ℕ) (truth : Bool) (before : List SheetEntry) (a : MakeAnswer) (after : List SheetEntry) (h : Makes s l A truth before a after) where
@@ -210,15 +240,6 @@ module _ (s : Shelf) (l : Lesson) (A : ℕ) (truth : Bool) (before : List SheetE
 
   -- ---- what it wrote, in every lesson
 
-  said-count : (known room : ℕ) (found : Bool) (count n : ℕ) → makeSays known room found count ≡ gives n → (found ≡ true) × (count ≡ n)
-  unfolding makeSays
-  said-count known room found count n e = go found (leb (2 * known) room) e
-    where
-      go : (f t : Bool) → cond f (cond t (gives count) (refused 25)) (refused 28) ≡ gives n → (f ≡ true) × (count ≡ n)
-      go true true q = (refl, given-same count n q)
-      go true false q = absurd (given-refused n 25 (sym q))
-      go false t q = absurd (given-refused n 28 (sym q))
-
   -- no more than two entries for each literal; the check accepts them; those after them stay
   pub make-wrote : (n : ℕ) → makeSaid a ≡ gives n → (n ≤ 2 * knownIn (shelfOf s)) × (checkSays d A truth (take n after) ≡ accepted) × (drop n after ≡ drop n before)
   make-wrote n e = go (inOrder (shelfOf s) A (gives acknowledged)) refl (h .makes .unless)
@@ -237,7 +258,7 @@ module _ (s : Shelf) (l : Lesson) (A : ℕ) (truth : Bool) (before : List SheetE
       go (refused m) q w = absurd (given-refused n m (sym e ∙ ap makeSaid (h .answers) ∙ w))
       go (gives x) q w = (omega (arith, counted .1, w .made-for .few), accepts, ap (drop n) after-is ∙ drop-at (entriesIn fields n) (drop n before) n size)
         where
-          counted : (w .made .found ≡ true) × (w .made .count ≡ n)
+          counted : (w .made .found ≡ true) × (w .made .count ≡ n) × (2 * knownIn (shelfOf s) ≤ length before)
           counted = said-count (knownIn (shelfOf s)) (length before) (w .made .found) (w .made .count) n (sym (w .says) ∙ sym (ap makeSaid (h .answers)) ∙ e)
 
           there : entriesIn (w .made .sheet .fields) (w .made .count) ≡ take n after

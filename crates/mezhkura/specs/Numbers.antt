@@ -8,6 +8,8 @@ use Rattle.reader.specs.declared.Answer.{Answer}
 use Rattle.reader.specs.declared.Answer.the-variants.{Accepted, Refused}
 use Rattle.reader.specs.declared.SizeAnswer.{SizeAnswer}
 use Rattle.reader.specs.declared.SizeAnswer.the-variants as size
+use Rattle.sheet.specs.declared.Judgement.{Judgement}
+use Rattle.sheet.specs.declared.Judgement.the-variants as judgement
 use Rattle.fixpoint.specs.declared.Verdict.the-variants.{True, False, Undefined}
 use Rattle.search.specs.declared.Tree.{Tree}
 use Rattle.lesson.specs.declared.Shelf.{Shelf}
@@ -27,6 +29,9 @@ use Rattle.lesson.specs.declared.OrderAnswer.{OrderAnswer}
 use Rattle.lesson.specs.declared.OrderAnswer.the-variants as order
 use Rattle.lesson.specs.declared.ListingAnswer.{ListingAnswer}
 use Rattle.lesson.specs.declared.ListingAnswer.the-variants as listing
+use Rattle.lesson.specs.declared.MakeAnswer.{MakeAnswer}
+use Rattle.lesson.specs.declared.MakeAnswer.the-variants as making
+use Rattle.lesson.specs.declared.MakeReply as lesson-make
 use Rattle.desk.specs.declared.LoadReply as desk-load
 use Rattle.mezhkura.specs.declared.SizeReply.{SizeReply}
 use Rattle.mezhkura.specs.declared.LoadReply.{LoadReply}
@@ -37,6 +42,9 @@ use Rattle.mezhkura.specs.declared.ModelReply.{ModelReply}
 use Rattle.mezhkura.specs.declared.OrderReply.{OrderReply}
 use Rattle.mezhkura.specs.declared.GroupsReply.{GroupsReply}
 use Rattle.mezhkura.specs.declared.ListingReply.{ListingReply}
+use Rattle.mezhkura.specs.declared.CheckReply.{CheckReply}
+use Rattle.mezhkura.specs.declared.MakeReply.{MakeReply}
+use Rattle.mezhkura.specs.declared.SheetMade.{SheetMade}
 
 -- ---- sizing
 
@@ -147,3 +155,26 @@ listingNumbers (listing.Refused number) = record { number = number; length = 0 }
 
 abbrev pub ListingIn : (ListingAnswer → Type 0) → ListingReply → Type 0
 ListingIn May r = (a : ListingAnswer) × May a × (r ≡ listingNumbers a)
+
+-- ---- proof sheets
+
+-- the index is that of 27, and 0 beside another number
+abbrev pub checkNumbers : Judgement → CheckReply
+checkNumbers judgement.Accepted = record { number = 0; index = 0 }
+checkNumbers (judgement.Refused number index) = record { number = number; index = index }
+
+abbrev pub CheckIn : (Judgement → Type 0) → CheckReply → Type 0
+CheckIn May r = (a : Judgement) × May a × (r ≡ checkNumbers a)
+
+-- a call that is turned down wrote no entry
+abbrev pub makeNumbers : MakeAnswer → MakeReply
+makeNumbers (making.Written n) = record { number = 0; count = n }
+makeNumbers (making.Refused number) = record { number = number; count = 0 }
+
+abbrev pub MakeIn : (MakeAnswer → Type 0) → MakeReply → Type 0
+MakeIn May r = (a : MakeAnswer) × May a × (r ≡ makeNumbers a)
+
+-- the same beside the sheet, before its entries are written into the lent run
+abbrev pub SheetIn : (lesson-make.MakeReply → Type 0) → SheetMade → Type 0
+SheetIn May m =
+    (q : lesson-make.MakeReply) × May q × (m .number ≡ makeNumbers (q .answer) .number) × (m .count ≡ makeNumbers (q .answer) .count) × (m .sheet ≡ q .sheet)

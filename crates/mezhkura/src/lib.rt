@@ -1,19 +1,23 @@
 // The calls of a desk for Rust and C, and sizing, which has no desk: structs by value, slices as pointer and length, answers as numbers. Each call answers
 // what the call of `desk`, `lesson` or `reader` answers, in document 01's numbers; 0 says that it was not turned down.
 ghost use mathlib.Core.Path.{_≡_};
+ghost use Prim.Native.Nat.{min};
+ghost use Rattle.sheet.specs.Sheet.{maxSheet};
+ghost use Rattle.sheet.specs.Flat.{entriesIn};
 ghost use Rattle.scan.specs.declared.Alphabet.the-variants.{EitherCase};
 ghost use Rattle.reader.specs.File.{readFile};
 ghost use Rattle.reader.specs.Sizing.{sizeOf};
 ghost use Rattle.search.specs.Questions.{treeOf, questionOf};
-ghost use Rattle.lesson.specs.Calls.{Changes, GivesVerdict, Searches, GivesModel, GivesOrder, GivesGroups, Lists, Previews};
+ghost use Rattle.lesson.specs.Calls.{Changes, GivesVerdict, Searches, GivesModel, GivesOrder, GivesGroups, Lists, Previews, Checks, MakesTable, Makes};
 ghost use Rattle.lesson.specs.declared.Change.the-variants.{PutIn, TakeOut};
 ghost use Rattle.desk.specs.Calls.{Fresh, Loads};
-ghost use Rattle.mezhkura.specs.Numbers.{sizeNumbers, loadNumber, loadLine, changeNumber, verdictNumber, verdictValue, searchNumber, searchValue, modelNumber, modelValue, orderNumber, listingNumbers, isSet, kindOf, LoadIn, ChangeIn, VerdictIn, SearchIn, ModelIn, OrderIn, GroupsIn, ListingIn};
+ghost use Rattle.mezhkura.specs.Numbers.{sizeNumbers, loadNumber, loadLine, changeNumber, verdictNumber, verdictValue, searchNumber, searchValue, modelNumber, modelValue, orderNumber, listingNumbers, isSet, kindOf, LoadIn, ChangeIn, VerdictIn, SearchIn, ModelIn, OrderIn, GroupsIn, ListingIn, checkNumbers, CheckIn, makeNumbers, MakeIn, SheetIn};
 use desk::Desk;
 use fixpoint::Verdict;
 use lesson::Change;
 use lesson::ChangeAnswer;
 use lesson::ListingAnswer;
+use lesson::MakeAnswer;
 use lesson::ModelAnswer;
 use lesson::OrderAnswer;
 use lesson::SearchAnswer;
@@ -23,6 +27,9 @@ use reach::Order;
 use reader::Answer;
 use reader::SizeAnswer;
 use search::Tree;
+use sheet::Judgement;
+use sheet::Sheet;
+use sheet::SheetEntry;
 
 #[repr(C)]
 pub struct SizeReply {
@@ -85,6 +92,18 @@ pub struct GroupsReply {
 pub struct ListingReply {
     pub number: u8,
     pub length: usize,
+}
+
+#[repr(C)]
+pub struct CheckReply {
+    pub number: u8,
+    pub index: usize,
+}
+
+#[repr(C)]
+pub struct MakeReply {
+    pub number: u8,
+    pub count: usize,
 }
 
 // ---- sizing
@@ -409,4 +428,108 @@ pub extern "C" fn mezhkura_preview_take_out(
     ensures { λ r. ⌜ ListingIn (λ a. Previews (desk .shelf) (desk .lesson) (TakeOut literal) (now (buffer .entry)) a (now (buffer .exit))) r ⌝ }
 {
     previewed(desk, Change::TakeOut(literal), buffer)
+}
+
+// ---- proof sheets: the entries of a lent run are copied into a sheet's table and back, one by one
+
+fn check_reply(a: Judgement) -> CheckReply
+    ensures { λ r. ⌜ r ≡ checkNumbers a ⌝ }
+{
+    match a {
+        Judgement::Accepted => CheckReply {
+            number: 0,
+            index: 0,
+        },
+        Judgement::Refused { number, index } => CheckReply { number, index },
+    }
+}
+
+// The check of the first n entries of a sheet.
+fn checked(desk: Desk, literal: usize, truth: u8, n: usize, sheet: Sheet) -> CheckReply
+    ensures { λ r. ⌜ CheckIn (Checks (desk .shelf) (desk .lesson) literal (isSet truth) (entriesIn (sheet .fields) n)) r ⌝ }
+{
+    check_reply(lesson::check_sheet(desk.shelf, desk.lesson, literal, is_set(truth), n, sheet))
+}
+
+fn make_reply(a: MakeAnswer) -> MakeReply
+    ensures { λ r. ⌜ r ≡ makeNumbers a ⌝ }
+{
+    match a {
+        MakeAnswer::Written(count) => MakeReply { number: 0, count },
+        MakeAnswer::Refused(number) => MakeReply { number, count: 0 },
+    }
+}
+
+// A reply's numbers, and the sheet whose first entries it counts.
+struct SheetMade {
+    number: u8,
+    count: usize,
+    sheet: Sheet,
+}
+
+// The sheet for a run with room for so many entries.
+fn make(desk: Desk, literal: usize, truth: u8, room: usize) -> SheetMade
+    ensures { λ r. ⌜ SheetIn (MakesTable (desk .shelf) (desk .lesson) literal (isSet truth) room) r ⌝ }
+{
+    let q = lesson::make_sheet(desk.shelf, desk.lesson, literal, is_set(truth), room);
+    let answer = q.answer;
+    let sheet = q.sheet;
+    let reply = make_reply(answer);
+    SheetMade {
+        number: reply.number,
+        count: reply.count,
+        sheet,
+    }
+}
+
+// How many entries of a run are read: no more than a sheet may have.
+fn most(n: usize) -> usize
+    ensures { λ r. ⌜ r ≡ min n maxSheet ⌝ }
+{
+    if n < sheet::MAX_SHEET {
+        return n;
+    }
+    sheet::MAX_SHEET
+}
+
+// The claim says "true" of the literal where `truth` is not 0, and "false" otherwise.
+#[no_mangle]
+pub extern "C" fn mezhkura_check_sheet(
+    desk: Desk,
+    literal: usize,
+    truth: u8,
+    entries: &[SheetEntry],
+) -> CheckReply
+    ensures { λ r. ⌜ CheckIn (Checks (desk .shelf) (desk .lesson) literal (isSet truth) (now (entries .entry))) r ⌝ }
+{
+    let n = most(entries.len());
+    let mut sheet = sheet::blank();
+    let mut i: usize = 0;
+    while i < n {
+        sheet = sheet::with_entry(sheet, i, entries[i]);
+        i += 1;
+    }
+    checked(desk, literal, truth, entries.len(), sheet)
+}
+
+// The sheet's entries are written from the first place on.
+#[no_mangle]
+pub extern "C" fn mezhkura_make_sheet(
+    desk: Desk,
+    literal: usize,
+    truth: u8,
+    entries: &mut [SheetEntry],
+) -> MakeReply
+    ensures { λ r. ⌜ MakeIn (λ a. Makes (desk .shelf) (desk .lesson) literal (isSet truth) (now (entries .entry)) a (now (entries .exit))) r ⌝ }
+{
+    let made = make(desk, literal, truth, entries.len());
+    let mut i: usize = 0;
+    while i < made.count {
+        entries[i] = sheet::entry_in(made.sheet, i);
+        i += 1;
+    }
+    MakeReply {
+        number: made.number,
+        count: made.count,
+    }
 }
