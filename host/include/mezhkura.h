@@ -9,7 +9,7 @@
  * there, so a screen of verdicts after one fact costs one model.
  *
  * number: 0 if the call is accepted; 1 to 9 for a refused file; 20 no book is loaded; 21 no such literal; 22 put
- * in now; 23 not put in; 24 contradictory; 25 buffer too short.
+ * in now; 23 not put in; 24 contradictory; 25 buffer or run of entries too short; 26, 27 and 28 for a proof sheet (below).
  *
  * 24 is given to a verdict, where the literal's name, or a name that it reaches (below), has both literals in M, and
  * nowhere else. The other verdicts of a contradictory lesson are given. Its listing has the header `contradiction`, with
@@ -36,6 +36,23 @@
  * mezhkura_model_by_groups works out M and N group by group in that order. They are those of the whole book and the
  * facts put in. It reads the book and the facts, and not the model that stands in the lesson.
  *
+ * mezhkura_check_sheet says whether a proof sheet shows a claim: that a literal is true, which is to lie in M, or that it is
+ * false, which is to lie outside N. No matter who wrote the sheet, what is accepted is so. A sheet is a run of entries. A
+ * "true" entry names a rule of its literal whose positive body literals are earlier "true" entries and whose "not" literals
+ * are earlier "false" ones, or the literal put in as a fact. "False" entries that stand side by side with one group number
+ * are a group, which no other group's number may be, and the group is judged whole: each rule of each literal in it, a fact
+ * put in too, has its head's complement true before the group, or a body literal "not C" with C true before it, or a positive
+ * body literal that is false before it or in the group. The numbers, in their order: 20 and 21 for the claim; 26 for no
+ * entries or more than 512; 27 with the index of the first entry that does not follow, which is an entry of another kind,
+ * with a literal that the book does not have or with the number of a group that has ended, a "true" one that names no such
+ * rule, or in a group the first with a rule left open; 28 where the claim is not among the entries.
+ *
+ * mezhkura_make_sheet writes a sheet for a claim, which the check accepts, to the first places of a lent run, and gives the
+ * count of its entries, at most two per literal. The entries after them stay. The numbers, in their order: 20; 21; 28 where
+ * the claim is not so; 25 where the run is shorter than two entries per literal, 4 * names. Which of the sheets for a claim
+ * is written is the engine's choice. Both calls read the book and the facts, and not the marks that stand in the lesson; 24
+ * never applies, and in a contradictory lesson both claims about a literal may be so.
+ *
  * Every call runs on a stack of 512 KB.
  */
 #ifndef MEZHKURA_H
@@ -55,6 +72,9 @@ typedef struct {
 
 /* How much a book has room for: names, rules, and body literals of all rules together. */
 enum { MEZHKURA_MOST_NAMES = 128, MEZHKURA_MOST_RULES = 512, MEZHKURA_MOST_BODY_LITERALS = 2048 };
+
+/* How many entries a proof sheet has room for: two per literal of the largest book. */
+enum { MEZHKURA_MOST_SHEET = 4 * MEZHKURA_MOST_NAMES };
 
 /* A loaded marking book. */
 typedef struct {
@@ -180,6 +200,28 @@ typedef struct {
     mezhkura_litset nonfalse;
 } mezhkura_groups_reply;
 
+/* kind: MEZHKURA_TRUE or MEZHKURA_FALSE; an entry of another kind never follows. rule: the number of a rule, counted from 0
+ * in file order, or MEZHKURA_MOST_RULES + literal for the literal put in as a fact; read in "true" entries only. group: read
+ * in "false" entries only. */
+typedef struct {
+    uint16_t kind;
+    uint16_t literal;
+    uint16_t rule;
+    uint16_t group;
+} mezhkura_sheet_entry;
+
+/* index: that of the first entry which does not follow where the number is 27, and 0 with every other number. */
+typedef struct {
+    uint8_t number;
+    size_t index;
+} mezhkura_check_reply;
+
+/* count: how many entries were written, 0 where the call is turned down. */
+typedef struct {
+    uint8_t number;
+    size_t count;
+} mezhkura_make_reply;
+
 mezhkura_size_reply mezhkura_size(const uint8_t *file, size_t file_len);
 /* Literal 2n is name n, and 2n + 1 its explicit negation ("shown not to be"). */
 mezhkura_desk mezhkura_fresh(void);
@@ -195,6 +237,11 @@ mezhkura_listing_reply mezhkura_preview_put_in(mezhkura_desk desk, size_t litera
 mezhkura_listing_reply mezhkura_preview_take_out(mezhkura_desk desk, size_t literal, uint8_t *buffer, size_t buffer_len);
 mezhkura_order_reply mezhkura_working_order(mezhkura_desk desk);
 mezhkura_groups_reply mezhkura_model_by_groups(mezhkura_desk desk);
+/* truth: 0 where the claim is that the literal is false, any other number where it is that the literal is true. */
+mezhkura_check_reply mezhkura_check_sheet(mezhkura_desk desk, size_t literal, uint8_t truth,
+                                          const mezhkura_sheet_entry *entries, size_t length);
+mezhkura_make_reply mezhkura_make_sheet(mezhkura_desk desk, size_t literal, uint8_t truth, mezhkura_sheet_entry *entries,
+                                        size_t length);
 
 #ifdef __cplusplus
 }

@@ -67,6 +67,86 @@ pub struct Question {
     pub tree: Tree,
 }
 
+/// What a proof sheet is to show of a literal (document 02, A.3). In a contradictory lesson both claims about a
+/// literal may be so.
+#[derive(Clone, Copy, Debug, PartialEq, Eq)]
+pub struct Claim {
+    /// The number of the literal.
+    pub literal: usize,
+    /// Whether the claim is "true", that the literal is in M, or "false", that it isn't in N.
+    pub truth: bool,
+}
+
+impl Claim {
+    /// Both claims about a literal.
+    pub fn both(literal: usize) -> [Claim; 2] {
+        [true, false].map(|truth| Claim { literal, truth })
+    }
+
+    /// The kind of the entries that show it.
+    pub fn kind(self) -> u16 {
+        match self.truth {
+            true => SheetEntry::TRUE,
+            false => SheetEntry::FALSE,
+        }
+    }
+}
+
+impl fmt::Display for Claim {
+    fn fmt(&self, f: &mut fmt::Formatter<'_>) -> fmt::Result {
+        write!(f, "{} is {}", self.literal, self.truth)
+    }
+}
+
+/// An entry of a proof sheet. It is lent to the engine as it stands here: four numbers of 16 bits, in this order.
+#[repr(C)]
+#[derive(Clone, Copy, PartialEq, Eq)]
+pub struct SheetEntry {
+    /// 1 says that the literal is true, 0 that it is false. No other kind follows from anything.
+    pub kind: u16,
+    /// The number of the literal.
+    pub literal: u16,
+    /// The number of a rule for the literal, or [`SheetEntry::fact`]; read in "true" entries only.
+    pub rule: u16,
+    /// The number of the group; read in "false" entries only.
+    pub group: u16,
+}
+
+impl SheetEntry {
+    /// The kind of an entry that says "true".
+    pub const TRUE: u16 = 1;
+    /// The kind of an entry that says "false".
+    pub const FALSE: u16 = 0;
+
+    /// The rule number that stands for a literal of a book, put in as a fact.
+    pub fn fact(literal: u16) -> u16 {
+        MOST_RULES as u16 + literal
+    }
+
+    /// Whether the entry says what a claim says.
+    pub fn says(self, claim: Claim) -> bool {
+        self.kind == claim.kind() && usize::from(self.literal) == claim.literal
+    }
+}
+
+impl fmt::Debug for SheetEntry {
+    /// In few characters, since a sheet has many entries: what is read of the entry, and of one of another kind
+    /// all numbers.
+    fn fmt(&self, f: &mut fmt::Formatter<'_>) -> fmt::Result {
+        let SheetEntry {
+            kind,
+            literal,
+            rule,
+            group,
+        } = self;
+        match *kind {
+            SheetEntry::TRUE => write!(f, "{literal} true by {rule}"),
+            SheetEntry::FALSE => write!(f, "{literal} false in {group}"),
+            _ => write!(f, "{literal} of kind {kind} by {rule} in {group}"),
+        }
+    }
+}
+
 /// The answer of the model call.
 #[derive(Clone, Debug, PartialEq, Eq)]
 pub struct Model {
@@ -131,6 +211,8 @@ pub const MOST_BODY_LITERALS: usize = 2_048;
 /// Bytes of the longest listing that calls can lead to: 128 names of 16 bytes, all of them contradictory
 /// (document 02, A.7), and a header whose counts have three digits each.
 pub const MOST_LISTING: usize = 6_209;
+/// Entries of one proof sheet (document 02, A.3): two for each literal of the largest book.
+pub const MOST_SHEET: usize = 4 * MOST_NAMES;
 
 /// How much of the tables a marking file fills: the names, rules and body literals of the book that a load
 /// of it would leave.
@@ -292,12 +374,22 @@ pub enum Refused {
     NotPutIn,
     /// 24: the literal's name, or a name that it reaches, has both literals in M.
     Contradictory,
-    /// 25: the lent buffer is shorter than the listing, or than the one that a preview would write.
+    /// 25: the lent buffer is shorter than the listing, or than the one that a preview would write; or the run
+    /// lent for a proof sheet is shorter than two entries per literal.
     BufferTooShort,
+    /// 26: a proof sheet has no entries, or more than 512.
+    SheetLength,
+    /// 27: an entry of a proof sheet doesn't follow.
+    DoesNotFollow {
+        /// The index of the first such entry, counted from 0.
+        index: usize,
+    },
+    /// 28: the claim isn't among the entries of a proof sheet; or, where one is to be made, the claim isn't so.
+    NotShown,
 }
 
 impl Refused {
-    /// The number that document 01 gives the refusal.
+    /// The number that document 01 or 02 gives the refusal.
     pub fn number(self) -> u8 {
         match self {
             Refused::File { fault, .. } => fault.number(),
@@ -307,6 +399,9 @@ impl Refused {
             Refused::NotPutIn => 23,
             Refused::Contradictory => 24,
             Refused::BufferTooShort => 25,
+            Refused::SheetLength => 26,
+            Refused::DoesNotFollow { .. } => 27,
+            Refused::NotShown => 28,
         }
     }
 
@@ -318,10 +413,11 @@ impl Refused {
         }
     }
 
-    /// The refusal with a number, and a line where the number is a file's.
-    pub fn from_number(number: u8, line: usize) -> Option<Refused> {
+    /// The refusal with a number, and with a place: the line where the number is a file's, the index where it
+    /// is 27.
+    pub fn from_number(number: u8, place: usize) -> Option<Refused> {
         if let Some(fault) = Fault::from_number(number) {
-            return Some(Refused::File { fault, line });
+            return Some(Refused::File { fault, line: place });
         }
         match number {
             20 => Some(Refused::NoBook),
@@ -330,6 +426,9 @@ impl Refused {
             23 => Some(Refused::NotPutIn),
             24 => Some(Refused::Contradictory),
             25 => Some(Refused::BufferTooShort),
+            26 => Some(Refused::SheetLength),
+            27 => Some(Refused::DoesNotFollow { index: place }),
+            28 => Some(Refused::NotShown),
             _ => None,
         }
     }
@@ -348,7 +447,14 @@ impl fmt::Display for Refused {
             Refused::Contradictory => {
                 "the name, or a name it reaches, is shown and shown not to be"
             }
-            Refused::BufferTooShort => "the buffer is shorter than the listing",
+            Refused::BufferTooShort => {
+                "the buffer or the run of entries that was lent is too short"
+            }
+            Refused::SheetLength => "the sheet has no entries, or more than 512",
+            Refused::DoesNotFollow { index } => {
+                return write!(f, "27: entry {index} of the sheet doesn't follow")
+            }
+            Refused::NotShown => "the sheet doesn't have the claim, or the claim isn't so",
         };
         write!(f, "{}: {words}", self.number())
     }
@@ -375,9 +481,9 @@ mod tests {
 
     #[test]
     fn numbers_and_refusals_name_each_other() {
-        let known = (1..=9).chain(20..=25);
+        let known = (1..=9).chain(20..=28);
         for number in known.clone() {
-            let refused = Refused::from_number(number, 3).expect("a number of document 01");
+            let refused = Refused::from_number(number, 3).expect("a number of documents 01 and 02");
             assert_eq!(refused.number(), number);
             assert_eq!(refused.line(), if number <= 9 { 3 } else { 0 });
         }

@@ -3,11 +3,12 @@
 //! every call whether the model is that of the book and the facts, whatever came before.
 
 use crate::answer::{
-    BookSize, Change, Model, ModelByGroups, Question, Refused, Tree, Verdict, WorkingOrder,
-    MOST_LISTING,
+    BookSize, Change, Claim, Model, ModelByGroups, Question, Refused, SheetEntry, Tree, Verdict,
+    WorkingOrder, MOST_LISTING,
 };
 use crate::gen::Call;
 use crate::second::{self, Desk, Program};
+use crate::sheets::told_of_a_made_sheet;
 use crate::shrink::shortest_calls;
 use std::fmt;
 use std::ops::AddAssign;
@@ -34,6 +35,8 @@ pub trait Calls {
     ) -> Result<usize, Refused>;
     fn working_order(&self) -> Result<WorkingOrder, Refused>;
     fn model_by_groups(&self) -> Result<ModelByGroups, Refused>;
+    fn check_sheet(&self, claim: Claim, sheet: &[SheetEntry]) -> Result<(), Refused>;
+    fn make_sheet(&self, claim: Claim, run: &mut [SheetEntry]) -> Result<usize, Refused>;
     /// All that the desk holds, as bytes in whatever form: a refused call leaves every one of them, and so does
     /// one that changes neither book nor facts.
     fn state(&self) -> Vec<u8>;
@@ -274,6 +277,11 @@ fn both_answers(call: &Call, second: &mut Desk, other: &mut dyn Calls) -> (Told,
         } => both_previews(*change, *literal, *margin, second, other),
         Call::WorkingOrder => (told(second.working_order()), told(other.working_order())),
         Call::ModelByGroups => (second_by_groups(second), told(other.model_by_groups())),
+        Call::CheckSheet { claim, sheet } => (
+            told(second.check_sheet(*claim, sheet)),
+            told(other.check_sheet(*claim, sheet)),
+        ),
+        Call::MakeSheet { claim, length } => both_sheets(*claim, *length, second, other),
     }
 }
 
@@ -340,6 +348,18 @@ fn both_previews(
     )
 }
 
+/// Which sheet is made is each maker's choice, so what is told of one is what all choices have in common.
+fn both_sheets(claim: Claim, length: usize, second: &Desk, other: &dyn Calls) -> (Told, Told) {
+    let of_a_sheet = |make: &dyn Fn(&mut [SheetEntry]) -> Result<usize, Refused>| {
+        let (text, refused) = told_of_a_made_sheet(second, claim, length, make);
+        Told { text, refused }
+    };
+    (
+        of_a_sheet(&|run| second.make_sheet(claim, run)),
+        of_a_sheet(&|run| other.make_sheet(claim, run)),
+    )
+}
+
 /// The length of a buffer by the length of the listing that is due, and that of some buffer where none is.
 fn lent(due: Result<usize, Refused>, margin: isize) -> usize {
     due.unwrap_or(40).saturating_add_signed(margin)
@@ -356,8 +376,8 @@ fn told_with_buffer(
     answer
 }
 
-/// What was asked after a list (model, listing, working order, model by groups, two previews, every literal's
-/// verdict, and its four searches against M and N), or a call that is answered differently.
+/// What was asked after a list (model, listing, working order, model by groups, two previews, two proof sheets,
+/// every literal's verdict, and its four searches against M and N), or a call that is answered differently.
 fn agree_at_the_end(second: &Desk, other: &mut dyn Calls) -> Result<Asked, Call> {
     let mut copy = second.clone();
     let calls = [
@@ -366,7 +386,8 @@ fn agree_at_the_end(second: &Desk, other: &mut dyn Calls) -> Result<Asked, Call>
         Call::WorkingOrder,
         Call::ModelByGroups,
     ];
-    for call in calls.into_iter().chain(previews_at_the_end(second)) {
+    let calls = calls.into_iter().chain(previews_at_the_end(second));
+    for call in calls.chain(sheets_at_the_end(second)) {
         let (ours, theirs) = both(&call, &mut copy, other);
         if ours != theirs {
             return Err(call);
@@ -402,6 +423,17 @@ fn previews_at_the_end(second: &Desk) -> impl Iterator<Item = Call> {
         literal,
         margin: 3,
     })
+}
+
+/// A proof sheet for each claim about the last literal.
+fn sheets_at_the_end(second: &Desk) -> impl Iterator<Item = Call> {
+    let literals = second.book().map_or(0, |book| book.literals());
+    let last = literals.checked_sub(1).into_iter();
+    last.flat_map(Claim::both)
+        .map(move |claim| Call::MakeSheet {
+            claim,
+            length: 2 * literals + 3,
+        })
 }
 
 /// Every literal's verdict after a list, or one that is answered differently.

@@ -44,7 +44,8 @@
 //! ```
 
 use crate::answer::{
-    BookSize, Change, Model, ModelByGroups, Question, Refused, Tree, Verdict, WorkingOrder,
+    BookSize, Change, Claim, Model, ModelByGroups, Question, Refused, SheetEntry, Tree, Verdict,
+    WorkingOrder,
 };
 use crate::compare::Calls;
 use crate::exports;
@@ -52,7 +53,7 @@ use std::collections::BTreeSet;
 use std::fmt;
 
 // Safety of the calls below: the exported functions are proved for every argument and every bit pattern
-// of a desk, read `file` only within its length and write `buffer` only within its length.
+// of a desk, read a file and a sheet only within their lengths, and write a buffer and a run only within theirs.
 
 /// How much of the tables a marking file fills, with no book stored: it takes no desk and changes none.
 ///
@@ -189,6 +190,36 @@ impl Desk {
             contradictory: reply.contradictory != 0,
         })
     }
+
+    /// Whether a proof sheet, no matter who wrote it, shows a claim. What is accepted is so: a claim "true" is of a
+    /// literal in M, a claim "false" of one outside N. It comes from the book and the facts, in contradictory lessons
+    /// too.
+    ///
+    /// Refused with 20 or 21, with 26 where the sheet has no entries or more than 512, with 27 and the index of the
+    /// first entry that doesn't follow, or with 28 where the claim isn't among the entries.
+    pub fn check_sheet(&self, claim: Claim, sheet: &[SheetEntry]) -> Result<(), Refused> {
+        let Claim { literal, truth } = claim;
+        let (start, length) = (sheet.as_ptr(), sheet.len());
+        let reply = unsafe {
+            exports::mezhkura_check_sheet(*self.0, literal, u8::from(truth), start, length)
+        };
+        accepted(reply.number, reply.index)
+    }
+
+    /// Writes a proof sheet for a claim to the run's first entries and answers how many it wrote; the entries after
+    /// them stay. [`Desk::check_sheet`] accepts the sheet. Which one it is may change with the engine.
+    ///
+    /// Refused with 20 or 21, with 28 where the claim isn't so, or with 25 where the run is shorter than two entries
+    /// per literal; [`MOST_SHEET`](crate::answer::MOST_SHEET) entries are enough for every book.
+    pub fn make_sheet(&self, claim: Claim, run: &mut [SheetEntry]) -> Result<usize, Refused> {
+        let Claim { literal, truth } = claim;
+        let (start, length) = (run.as_mut_ptr(), run.len());
+        let reply = unsafe {
+            exports::mezhkura_make_sheet(*self.0, literal, u8::from(truth), start, length)
+        };
+        accepted(reply.number, 0)?;
+        Ok(reply.count)
+    }
 }
 
 impl fmt::Debug for Desk {
@@ -207,12 +238,12 @@ impl fmt::Debug for Desk {
     }
 }
 
-/// What a reply's number says.
-fn accepted(number: u8, line: usize) -> Result<(), Refused> {
+/// What a reply's number says, with the line of a file or the index of an entry.
+fn accepted(number: u8, place: usize) -> Result<(), Refused> {
     if number == exports::ACCEPTED {
         return Ok(());
     }
-    let refused = Refused::from_number(number, line);
+    let refused = Refused::from_number(number, place);
     Err(refused.unwrap_or_else(|| panic!("the engine has no refusal {number}")))
 }
 
@@ -297,6 +328,14 @@ impl Calls for Desk {
 
     fn model_by_groups(&self) -> Result<ModelByGroups, Refused> {
         Desk::model_by_groups(self)
+    }
+
+    fn check_sheet(&self, claim: Claim, sheet: &[SheetEntry]) -> Result<(), Refused> {
+        Desk::check_sheet(self, claim, sheet)
+    }
+
+    fn make_sheet(&self, claim: Claim, run: &mut [SheetEntry]) -> Result<usize, Refused> {
+        Desk::make_sheet(self, claim, run)
     }
 
     fn state(&self) -> Vec<u8> {

@@ -4,7 +4,7 @@
 //! meaning of numbers. A slice is two arguments, a pointer and a count. No function has a condition on
 //! its arguments: every bit pattern of a struct has a meaning.
 
-use crate::answer::{MOST_BODY_LITERALS, MOST_NAMES, MOST_RULES};
+use crate::answer::{SheetEntry, MOST_BODY_LITERALS, MOST_NAMES, MOST_RULES};
 use std::mem::size_of;
 
 /// A set of literals: bit l % 64 of word l / 64 says whether l is a member.
@@ -160,6 +160,21 @@ pub struct GroupsReply {
     pub nonfalse: LitSet,
 }
 
+/// The reply to a check of a proof sheet. The index is that of the first entry that doesn't follow, and 0 with every
+/// number but 27.
+#[repr(C)]
+pub struct CheckReply {
+    pub number: u8,
+    pub index: usize,
+}
+
+/// The reply to the call that makes a proof sheet: how many entries it wrote. A call that is turned down has 0.
+#[repr(C)]
+pub struct MakeReply {
+    pub number: u8,
+    pub count: usize,
+}
+
 // The sizes that tests/c/desk.c asserts of the structs of include/mezhkura.h.
 const _: () = {
     assert!(size_of::<LitSet>() == 32);
@@ -179,6 +194,9 @@ const _: () = {
     assert!(size_of::<Order>() == 528);
     assert!(size_of::<OrderReply>() == 536);
     assert!(size_of::<GroupsReply>() == 72);
+    assert!(size_of::<SheetEntry>() == 8);
+    assert!(size_of::<CheckReply>() == 16);
+    assert!(size_of::<MakeReply>() == 16);
 };
 
 /// The kinds of tree that `mezhkura_search` takes.
@@ -209,4 +227,18 @@ extern "C" {
     ) -> ListingReply;
     pub fn mezhkura_working_order(desk: Desk) -> OrderReply;
     pub fn mezhkura_model_by_groups(desk: Desk) -> GroupsReply;
+    pub fn mezhkura_check_sheet(
+        desk: Desk,
+        literal: usize,
+        truth: u8,
+        entries: *const SheetEntry,
+        length: usize,
+    ) -> CheckReply;
+    pub fn mezhkura_make_sheet(
+        desk: Desk,
+        literal: usize,
+        truth: u8,
+        entries: *mut SheetEntry,
+        length: usize,
+    ) -> MakeReply;
 }

@@ -1,7 +1,9 @@
 //! Books, files and lists of calls from a seed. The same seed gives the same values everywhere.
 
-use crate::answer::{Change, Question, Tree};
-use crate::second::{complement, Book, Entry, Rule};
+pub mod sheets;
+
+use crate::answer::{Change, Claim, Question, SheetEntry, Tree};
+use crate::second::{complement, Book, Desk, Entry, Rule};
 use crate::second::{MOST_BODY_LITERALS, MOST_IN_A_BODY, MOST_NAMES, MOST_RULES};
 use std::fmt;
 
@@ -998,12 +1000,32 @@ pub enum Call {
     },
     WorkingOrder,
     ModelByGroups,
+    /// A check of a claim by a proof sheet.
+    CheckSheet {
+        claim: Claim,
+        sheet: Vec<SheetEntry>,
+    },
+    /// A proof sheet made for a claim, in a run of so many entries.
+    MakeSheet {
+        claim: Claim,
+        length: usize,
+    },
 }
 
 impl Call {
     /// Whether the call changes the book or the facts where it isn't refused.
     pub fn is_a_change(&self) -> bool {
         matches!(self, Call::Load(_) | Call::PutIn(_) | Call::TakeOut(_))
+    }
+
+    /// Makes the call on a desk, where it is a change. One that is refused changes nothing.
+    fn change(&self, desk: &mut Desk) {
+        let _ = match self {
+            Call::Load(file) => desk.load(file),
+            Call::PutIn(literal) => desk.put_in(*literal),
+            Call::TakeOut(literal) => desk.take_out(*literal),
+            _ => Ok(()),
+        };
     }
 }
 
@@ -1027,6 +1049,12 @@ impl fmt::Debug for Call {
             } => write!(f, "preview: {change} {literal}, buffer longer by {margin}"),
             Call::WorkingOrder => write!(f, "working order"),
             Call::ModelByGroups => write!(f, "model by groups"),
+            Call::CheckSheet { claim, sheet } => {
+                write!(f, "check that {claim} by {}", sheets::spelt(sheet))
+            }
+            Call::MakeSheet { claim, length } => {
+                write!(f, "make a sheet that {claim} in {length} entries")
+            }
         }
     }
 }
@@ -1035,13 +1063,18 @@ impl fmt::Debug for Call {
 /// book's.
 pub fn calls(random: &mut Random, size: Size) -> Vec<Call> {
     let mut calls = Vec::new();
+    // Proof sheets are about what the calls before them leave.
+    let mut desk = Desk::fresh();
     // A few lists start with calls on a desk that has no book.
     if random.chance(7, 8) {
         let book = book(random, size);
         calls.push(Call::Load(written(random, &book)));
+        calls[0].change(&mut desk);
     }
     for _ in 0..random.between(1, 24) {
-        calls.push(call(random, size));
+        let call = call(random, size, &desk);
+        call.change(&mut desk);
+        calls.push(call);
     }
     calls
 }
@@ -1091,8 +1124,9 @@ pub fn calls_on_clashes(random: &mut Random, most_names: usize) -> Vec<Call> {
     calls
 }
 
-fn call(random: &mut Random, size: Size) -> Call {
-    match random.below(32) {
+/// A call on a desk with what the calls before it leave.
+fn call(random: &mut Random, size: Size, desk: &Desk) -> Call {
+    match random.below(36) {
         0 => Call::Load(file(random, size)),
         1..=7 => Call::PutIn(any_literal(random, size)),
         8..=12 => Call::TakeOut(any_literal(random, size)),
@@ -1108,11 +1142,32 @@ fn call(random: &mut Random, size: Size) -> Call {
         26..=27 => Call::Listing {
             margin: margin(random),
         },
-        _ => {
+        28..=31 => {
             let literal = any_literal(random, size);
             preview(random, literal)
         }
+        32..=33 => make_sheet(random, size, desk),
+        _ => check_sheet(random, size, desk),
     }
+}
+
+/// A proof sheet to make, at times for a claim about a literal that no book has.
+fn make_sheet(random: &mut Random, size: Size, desk: &Desk) -> Call {
+    let literals = desk.book().map_or(0, |book| book.literals());
+    Call::MakeSheet {
+        claim: sheets::any_claim(random, size),
+        length: sheets::any_run(random, literals),
+    }
+}
+
+/// A proof sheet to check, at times for a claim that it wasn't made for.
+fn check_sheet(random: &mut Random, size: Size, desk: &Desk) -> Call {
+    let (made_for, sheet) = sheets::claim_and_sheet(random, desk);
+    let claim = match random.chance(1, 4) {
+        true => sheets::any_claim(random, size),
+        false => made_for,
+    };
+    Call::CheckSheet { claim, sheet }
 }
 
 /// How much longer (or shorter) than a listing a buffer is.

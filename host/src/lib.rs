@@ -7,6 +7,7 @@
 //!   shows a difference.
 //! - [`accord`]: holds a desk against the answer sets of what a list of calls leaves.
 //! - [`previews`]: holds its previews against the change made on a copy and the listing of that.
+//! - [`sheets`]: holds its proof sheets, and what it says of sheets, against the second implementation, M and N.
 //! - [`published`]: holds its verdicts against the published definition, and against books with other rules for
 //!   names that aren't reached.
 //! - `engine`: the proved engine behind a safe type (feature `engine`).
@@ -22,4 +23,5 @@ pub mod gen;
 pub mod previews;
 pub mod published;
 pub mod second;
+pub mod sheets;
 pub mod shrink;

@@ -1,5 +1,6 @@
 //! Short inputs that still show a difference.
 
+use crate::answer::SheetEntry;
 use crate::gen::{lines_of, Call};
 
 /// A list that still shows what `shows` looks for, and from which no single element can be left
@@ -47,19 +48,27 @@ fn fewest_capitals(mut file: Vec<u8>, shows: &mut dyn FnMut(&[u8]) -> bool) -> V
     file
 }
 
-/// A list of calls from which no call can be left out, nor a line or byte of a loaded file.
+/// A list of calls from which no call can be left out, nor a line or byte of a loaded file, nor an entry of a proof
+/// sheet.
 pub fn shortest_calls(calls: Vec<Call>, shows: &mut dyn FnMut(&[Call]) -> bool) -> Vec<Call> {
     let mut calls = shortest(calls, shows);
     for place in 0..calls.len() {
-        let Call::Load(file) = calls[place].clone() else {
-            continue;
-        };
         let mut trial = calls.clone();
-        let short = shortest_file(&file, &mut |file| {
-            trial[place] = Call::Load(file.to_vec());
+        let mut shows_with = |call: Call| {
+            trial[place] = call;
             shows(&trial)
-        });
-        calls[place] = Call::Load(short);
+        };
+        calls[place] = match calls[place].clone() {
+            Call::Load(file) => Call::Load(shortest_file(&file, &mut |file| {
+                shows_with(Call::Load(file.to_vec()))
+            })),
+            Call::CheckSheet { claim, sheet } => {
+                let with = |sheet| Call::CheckSheet { claim, sheet };
+                let mut shows = |sheet: &[SheetEntry]| shows_with(with(sheet.to_vec()));
+                with(shortest(sheet, &mut shows))
+            }
+            call => call,
+        };
     }
     calls
 }

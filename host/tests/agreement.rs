@@ -1,7 +1,7 @@
 //! On random small books: the searches agree with M and N, M and N with the published notions and with
 //! the answer sets, verdicts with the published definition over the rules for reached names, previews with the
-//! change on a copy, the rounds are those of the definition, capitals make no other names, and the comparison of
-//! two desks finds wrong ones.
+//! change on a copy, proof sheets with M and N, the rounds are those of the definition, capitals make no other names,
+//! and the comparison of two desks finds wrong ones.
 
 mod families;
 mod wrong;
@@ -18,9 +18,10 @@ use mezhkura::second::{contradictory_name, every_set, gamma, partial_stable_mode
 use mezhkura::second::{program_output, read, search};
 use mezhkura::second::{Book, Desk, Program, Rule, Walk};
 use mezhkura::second::{MOST_BODY_LITERALS, MOST_NAMES};
+use mezhkura::sheets::{sheets_agree, Sheets};
 use std::collections::BTreeSet;
 use std::iter::successors;
-use wrong::{Astray, How, Misshown, Wrong};
+use wrong::{Astray, How, Misjudged, Mismade, Misshown, Wrong};
 
 /// The seed of the random books; another can be set by hand.
 fn seed() -> u64 {
@@ -512,6 +513,41 @@ fn desks_that_are_wrong_about_previews_are_found() {
                 _ => assert!(random_models(how, 100).is_ok(), "{how:?}"),
             }
         }
+    }
+}
+
+/// What was looked at of proof sheets after so many lists, or a list that shows that something of them is wrong.
+fn random_sheets(how: How, lists: usize) -> Result<Sheets, String> {
+    let mut sheets = Sheets::default();
+    for calls in lists_with_clashes(seed() + 11, lists) {
+        sheets += sheets_agree(&calls, seed(), 20, || Wrong::fresh(how))?;
+    }
+    Ok(sheets)
+}
+
+/// Document 02, A.3. Each is shown by a check or by a sheet that is made, in lists of calls and in the comparison of
+/// sheets.
+#[test]
+fn desks_that_are_wrong_about_sheets_are_found() {
+    let right = random_sheets(How::NotAtAll, 300).unwrap_or_else(|text| panic!("{text}"));
+    println!("{right:?}");
+    assert!(right.of_truths > 1_000 && right.in_contradictory > 1_000);
+    assert!(right.accepted_otherwise > 1_000, "{right:?}");
+    for (numbers, counts) in [
+        (&[0, 20, 21, 25, 28][..], &right.made),
+        (&[0, 20, 21, 26, 27, 28], &right.checked),
+    ] {
+        for number in numbers {
+            assert!(counts[number] > 100, "{number}: {right:?}");
+        }
+    }
+    let judges = Misjudged::ALL.map(|misjudged| (How::Judges(misjudged), "(check that "));
+    let makes = Mismade::ALL.map(|mismade| (How::Makes(mismade), "(make a sheet that "));
+    for (how, call) in judges.into_iter().chain(makes) {
+        let text = assert_found(how, random_lists(how, 4_000));
+        assert!(text.contains(call), "{how:?}: {text}");
+        assert_found(how, random_sheets(how, 2_000));
+        assert!(random_models(how, 20).is_ok(), "{how:?}");
     }
 }
 

@@ -1,13 +1,16 @@
-//! The calls on one desk (document 01, "When a call is turned down by the state"; document 02, A.5, A.7 and A.8).
+//! The calls on one desk (document 01, "When a call is turned down by the state"; document 02, A.3, A.5,
+//! A.7 and A.8).
 
 use super::book::Book;
 use super::groups::{model_by_groups, reach, working_order};
 use super::listing::listing;
 use super::model::{contradictory_name, members, Program};
 use super::reader::read;
+use super::sheets::{check, make, Matter};
 use super::trees::search;
 use super::verdicts::verdict;
-use crate::answer::{Change, Model, ModelByGroups, Question, Refused, Verdict, WorkingOrder};
+use crate::answer::{Change, Claim, Model, ModelByGroups, Question, Refused, SheetEntry};
+use crate::answer::{Verdict, WorkingOrder};
 use std::collections::BTreeSet;
 
 /// A desk: a book, once one is loaded, and the facts put in. M and N don't stand here: each call that
@@ -123,6 +126,26 @@ impl Desk {
         let mut copy = self.clone();
         copy.change(change, literal)?;
         copy.listing(buffer)
+    }
+
+    /// Whether a proof sheet shows a claim.
+    pub fn check_sheet(&self, claim: Claim, sheet: &[SheetEntry]) -> Result<(), Refused> {
+        check(self.matter(claim.literal)?, claim, sheet)
+    }
+
+    /// Writes a proof sheet for a claim to the first entries of a run and answers how many it wrote.
+    pub fn make_sheet(&self, claim: Claim, run: &mut [SheetEntry]) -> Result<usize, Refused> {
+        make(self.matter(claim.literal)?, claim, run)
+    }
+
+    /// What a proof sheet with a claim about this literal is about.
+    pub fn matter(&self, literal: usize) -> Result<Matter<'_>, Refused> {
+        let book = self.book_with(literal)?;
+        Ok(Matter {
+            literals: book.literals(),
+            rules: &book.rules,
+            facts: &self.facts,
+        })
     }
 
     fn loaded(&self) -> Result<&Book, Refused> {

@@ -1,14 +1,17 @@
 //! Desks that are wrong in one thing, for the comparison to find.
 
+mod sheets;
+
 use super::{first_and_rest, program_of, with_each_line};
 use mezhkura::answer::{
-    BookSize, Change, Fault, Model, ModelByGroups, Question, Refused, Verdict, WorkingOrder,
-    MOST_LISTING,
+    BookSize, Change, Claim, Fault, Model, ModelByGroups, Question, Refused, SheetEntry, Verdict,
+    WorkingOrder, MOST_LISTING,
 };
 use mezhkura::compare::{answer_by_model, Calls, MOST_VISITS};
 use mezhkura::gen;
 use mezhkura::second::{model_by_groups, reach, read, size, value, word, working_order};
 use mezhkura::second::{Book, Desk, Program, Rule};
+pub use sheets::{Misjudged, Mismade};
 
 /// A desk that is the second implementation, but for one thing that it does wrong.
 #[derive(Clone)]
@@ -435,6 +438,8 @@ pub enum How {
     HeadsByTheHighestClash,
     NamesNoClash,
     Previews(Change, Misshown),
+    Judges(Misjudged),
+    Makes(Mismade),
     UndefinedIsTrue,
     UndefinedIsFalse,
     UndefinedIsAContradiction,
@@ -595,6 +600,20 @@ impl Calls for Wrong {
             How::StepsForgetFacts => self.without_facts()?.model_by_groups(),
             How::StepsKnowTruthsAlone => by_truths_alone(&self.desk),
             _ => self.desk.model_by_groups(),
+        }
+    }
+
+    fn check_sheet(&self, claim: Claim, sheet: &[SheetEntry]) -> Result<(), Refused> {
+        match self.how {
+            How::Judges(misjudged) => misjudged.check(&self.desk, claim, sheet),
+            _ => self.desk.check_sheet(claim, sheet),
+        }
+    }
+
+    fn make_sheet(&self, claim: Claim, run: &mut [SheetEntry]) -> Result<usize, Refused> {
+        match self.how {
+            How::Makes(mismade) => mismade.make(&self.desk, claim, run),
+            _ => self.desk.make_sheet(claim, run),
         }
     }
 
