@@ -81,34 +81,42 @@ impl<'a, D: Calls> Pair<'a, D> {
         }
     }
 
-    /// Holds the makers against M and N, and the sheets of both against both checks.
+    /// Holds the makers against M and N, and the sheets of both against both checks. The second one, which has no
+    /// choice in what it refuses, is asked once.
     fn look_at_makers(&mut self, claim: Claim) -> Result<(), String> {
         let bound = 2 * self.literals;
-        let due = match self.is_so(claim) {
-            true => Ok(()),
-            false => Err(Refused::NotShown),
-        };
+        let ours = made(claim, bound, &|run| self.second.make_sheet(claim, run))?;
+        self.look_at_an_answer("second", claim, bound, ours)?;
         for length in [bound + 7, bound, bound - 1, 0] {
-            let due = match length < bound {
-                true => due.and(Err(Refused::BufferTooShort)),
-                false => due,
-            };
-            let second = self.second;
-            let ours = second_made(second, claim, length);
             let theirs = made(claim, length, &|run| self.desk.make_sheet(claim, run))?;
-            for (who, answer) in [("second", ours), ("the other", theirs)] {
-                let of = format!("in {length} entries {who} makes {answer:?} to show that {claim}");
-                if answer.as_ref().map(|_| ()).map_err(|refused| *refused) != due {
-                    return Err(format!("{of}, and {due:?} is due"));
-                }
-                if let Ok(sheet) = answer {
-                    self.look_at_a_made_sheet(claim, &sheet)
-                        .map_err(|text| format!("{of}: {text}"))?;
-                }
-            }
-            let number = due.map_or_else(Refused::number, |()| 0);
-            *self.sheets.made.entry(number).or_default() += 1;
+            self.look_at_an_answer("the other", claim, length, theirs)?;
         }
+        Ok(())
+    }
+
+    /// Holds what one of the makers answers for a run of so many entries against what is due, and its sheet against
+    /// both checks.
+    fn look_at_an_answer(
+        &mut self,
+        who: &str,
+        claim: Claim,
+        length: usize,
+        answer: Result<Vec<SheetEntry>, Refused>,
+    ) -> Result<(), String> {
+        let due = match self.is_so(claim) {
+            false => Some(Refused::NotShown),
+            true => (length < 2 * self.literals).then_some(Refused::BufferTooShort),
+        };
+        let of = || format!("in {length} entries {who} makes {answer:?} to show that {claim}");
+        if answer.as_ref().err() != due.as_ref() {
+            return Err(format!("{}, and {due:?} is due", of()));
+        }
+        if let Ok(sheet) = &answer {
+            self.look_at_a_made_sheet(claim, sheet)
+                .map_err(|text| format!("{}: {text}", of()))?;
+        }
+        let number = due.map_or(0, Refused::number);
+        *self.sheets.made.entry(number).or_default() += 1;
         Ok(())
     }
 
@@ -127,34 +135,40 @@ impl<'a, D: Calls> Pair<'a, D> {
 
     /// Holds both checks against each other and, where they accept, against M and N. Answers their number.
     fn look_at_checks(&mut self, claim: Claim, sheet: &[SheetEntry]) -> Result<u8, String> {
-        if self.difference(claim, sheet).is_some() {
-            return Err(self.explained(claim, sheet));
-        }
-        let answer = self.second.check_sheet(claim, sheet);
+        let answer = self.both_checks(claim, sheet);
+        let answer = answer.map_err(|_| self.explained(claim, sheet))?;
         let number = answer.map_or_else(Refused::number, |()| 0);
         *self.sheets.checked.entry(number).or_default() += 1;
         Ok(number)
     }
 
-    /// A short sheet of which the checks say different things, ready to print. A long one is printed as it is: what it
-    /// shows may come from its length, and then every shorter one takes a trial.
-    fn explained(&self, claim: Claim, sheet: &[SheetEntry]) -> String {
-        let mut short = sheet.to_vec();
-        if short.len() <= 100 {
-            short = shortest(short, &mut |sheet| self.difference(claim, sheet).is_some());
-        }
-        let text = self.difference(claim, &short);
-        let text = text.expect("the short sheet shows it too");
-        format!("of {claim} by {} {text}", gen::sheets::spelt(&short))
-    }
-
-    fn difference(&self, claim: Claim, sheet: &[SheetEntry]) -> Option<String> {
+    /// What both checks say, or what is different.
+    fn both_checks(
+        &self,
+        claim: Claim,
+        sheet: &[SheetEntry],
+    ) -> Result<Result<(), Refused>, String> {
         let ours = self.second.check_sheet(claim, sheet);
         let theirs = self.desk.check_sheet(claim, sheet);
         if ours != theirs {
-            return Some(format!("second says {ours:?}, the other says {theirs:?}"));
+            return Err(format!("second says {ours:?}, the other says {theirs:?}"));
         }
-        (ours.is_ok() && !self.is_so(claim)).then(|| "both accept what isn't so".to_string())
+        match ours {
+            Ok(()) if !self.is_so(claim) => Err("both accept what isn't so".to_string()),
+            _ => Ok(ours),
+        }
+    }
+
+    /// A short sheet that shows a difference, ready to print. A long one is printed as it is: what it shows may come
+    /// from its length, and then every shorter one takes a trial.
+    fn explained(&self, claim: Claim, sheet: &[SheetEntry]) -> String {
+        let difference = |sheet: &[SheetEntry]| self.both_checks(claim, sheet).err();
+        let mut short = sheet.to_vec();
+        if short.len() <= 100 {
+            short = shortest(short, &mut |sheet| difference(sheet).is_some());
+        }
+        let text = difference(&short).expect("the short sheet shows it too");
+        format!("of {claim} by {} {text}", gen::sheets::spelt(&short))
     }
 
     /// Holds both checks against each other on so many changed and random sheets. Half of those that are changed are
@@ -209,14 +223,6 @@ fn look_at_refusals<D: Calls>(second: &Desk, desk: &D) -> Result<Sheets, String>
     Ok(sheets)
 }
 
-/// The sheet that the second implementation makes in a run of so many entries.
-fn second_made(second: &Desk, claim: Claim, length: usize) -> Result<Vec<SheetEntry>, Refused> {
-    let mut run = vec![UNTOUCHED; length];
-    let count = second.make_sheet(claim, &mut run)?;
-    run.truncate(count);
-    Ok(run)
-}
-
 /// A maker: it writes a sheet to the first entries of a run.
 type Maker<'a> = &'a dyn Fn(&mut [SheetEntry]) -> Result<usize, Refused>;
 
@@ -262,33 +268,47 @@ pub(crate) fn told_of_a_made_sheet(
     }
 }
 
-/// Makes the calls of a list on a fresh desk. Then it has both implementations make a sheet for every claim about every
-/// literal of the book that the list leaves, in runs around two entries per literal: there is one exactly where the
-/// claim is so, both checks accept it, it has at most two entries per literal, and the entries behind it stay. Behind
-/// that it has both checks judge so many changed and random sheets, and what they accept is so. Where one of these
-/// isn't so, a short list of calls that shows it, ready to print.
+/// How much is looked at after a list of calls.
+#[derive(Clone, Copy, Debug)]
+pub struct Amount {
+    /// About so many literals at most, which stand as far apart as they can.
+    pub literals: usize,
+    /// So many changed and random sheets.
+    pub changed: usize,
+    /// The seed of these.
+    pub seed: u64,
+}
+
+/// Makes the calls of a list on a fresh desk. Then it has both implementations make sheets for both claims about literals
+/// of the book that the list leaves, in runs around two entries per literal: there is one exactly where the claim is
+/// so, both checks accept it, it has at most two entries per literal, and the entries behind it stay. Behind that it
+/// has both checks judge changed and random sheets, and what they accept is so. Where one of these isn't so, a short
+/// list of calls that shows it, ready to print.
 pub fn sheets_agree<D: Calls>(
     calls: &[Call],
-    seed: u64,
-    changed: usize,
+    amount: Amount,
     fresh: impl Fn() -> D,
 ) -> Result<Sheets, String> {
     look_after(calls, &fresh, |second, desk| {
-        let mut sheets = look_at_refusals(second, desk).map_err(|text| format!("then {text}"))?;
-        let Some(mut pair) = Pair::of(second, desk) else {
-            return Ok(sheets);
-        };
-        let look = |pair: &mut Pair<D>| {
-            for claim in (0..pair.literals).flat_map(Claim::both) {
-                pair.look_at_makers(claim)?;
-            }
-            match pair.literals {
-                0 => Ok(()),
-                _ => pair.look_at_changed_sheets(&mut Random::new(seed), changed),
-            }
-        };
-        look(&mut pair).map_err(|text| format!("then {text}"))?;
-        sheets += pair.sheets;
-        Ok(sheets)
+        let before = desk.state();
+        let sheets = look_at_sheets(second, desk, amount).map_err(|text| format!("then {text}"))?;
+        match desk.state() == before {
+            true => Ok(sheets),
+            false => Err("then checks and makers change the desk".to_string()),
+        }
     })
+}
+
+fn look_at_sheets<D: Calls>(second: &Desk, desk: &D, amount: Amount) -> Result<Sheets, String> {
+    let mut sheets = look_at_refusals(second, desk)?;
+    let Some(mut pair) = Pair::of(second, desk).filter(|pair| pair.literals > 0) else {
+        return Ok(sheets);
+    };
+    let apart = pair.literals.div_ceil(amount.literals);
+    for claim in (0..pair.literals).step_by(apart).flat_map(Claim::both) {
+        pair.look_at_makers(claim)?;
+    }
+    pair.look_at_changed_sheets(&mut Random::new(amount.seed), amount.changed)?;
+    sheets += pair.sheets;
+    Ok(sheets)
 }

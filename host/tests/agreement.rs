@@ -18,7 +18,7 @@ use mezhkura::second::{contradictory_name, every_set, gamma, partial_stable_mode
 use mezhkura::second::{program_output, read, search};
 use mezhkura::second::{Book, Desk, Program, Rule, Walk};
 use mezhkura::second::{MOST_BODY_LITERALS, MOST_NAMES};
-use mezhkura::sheets::{sheets_agree, Sheets};
+use mezhkura::sheets::{sheets_agree, Amount, Sheets};
 use std::collections::BTreeSet;
 use std::iter::successors;
 use wrong::{Astray, How, Misjudged, Mismade, Misshown, Wrong};
@@ -520,7 +520,12 @@ fn desks_that_are_wrong_about_previews_are_found() {
 fn random_sheets(how: How, lists: usize) -> Result<Sheets, String> {
     let mut sheets = Sheets::default();
     for calls in lists_with_clashes(seed() + 11, lists) {
-        sheets += sheets_agree(&calls, seed(), 20, || Wrong::fresh(how))?;
+        let amount = Amount {
+            literals: 20,
+            changed: 20,
+            seed: seed(),
+        };
+        sheets += sheets_agree(&calls, amount, || Wrong::fresh(how))?;
     }
     Ok(sheets)
 }

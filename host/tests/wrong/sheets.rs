@@ -449,10 +449,10 @@ impl Mismade {
                 };
                 return desk.make_sheet(other, run);
             }
-            Mismade::TakesTheTrueForNotFalse if !claim.truth => {
-                if desk.make_sheet(truth, &mut whole).is_ok() {
-                    return Err(Refused::NotShown);
-                }
+            Mismade::TakesTheTrueForNotFalse
+                if !claim.truth && desk.make_sheet(truth, &mut whole.clone()).is_ok() =>
+            {
+                return Err(Refused::NotShown)
             }
             Mismade::ForgetsFacts => return without_facts(desk).make_sheet(claim, run),
             _ => {}
