@@ -76,6 +76,12 @@ fn a_c_program_works_on_a_desk() {
     let previews = "20 0 7\n21 0 7\n22 0 7\n23 0 7\n25 0 7\n\
         0 56 7\ncontradiction,1,0,2,1,a\n0,a,contradictory,contradictory\n\
         25 0 7\n0 30 7\nmodel,1,0,0,0\n0,a,false,false\nmodel,1,0,1,1\n0,a,true,false\n";
+    // An index stands behind each number of a check: without its reason, and with the reason behind it, entry 0 doesn't
+    // follow, and the literal that the book doesn't have is in entry 1. A made sheet shows its claim, and what is refused
+    // has none; all entries behind it stay.
+    let sheets = " 0 0 0 0 0 0 27 0 27 0 27 1\n \
+        0 1 1 0 1 1 28 0 1 25 0 1 21 0 1 20 0 1\n \
+        20 0 21 0 26 0 26 0 0 0 28 0\n";
     let printed = String::from_utf8_lossy(&run.stdout);
-    assert_eq!(printed, format!("{expected}{clash}{previews}"));
+    assert_eq!(printed, format!("{expected}{clash}{previews}{sheets}"));
 }

@@ -8,7 +8,7 @@ mod families;
 
 use families::{header_of, known_rounds};
 use mezhkura::accord::{accords, Accord};
-use mezhkura::answer::{Change, MOST_LISTING};
+use mezhkura::answer::{Change, Claim, MOST_LISTING};
 use mezhkura::compare::{agree, answers_agree, explain, models_stand, questions, Asked, Stood};
 use mezhkura::engine::Desk;
 use mezhkura::gen::{self, Call, Random, FULL, MIDDLE, SMALL};
@@ -57,6 +57,13 @@ fn look(literals: &[usize]) -> Vec<Call> {
     calls.extend([-1, 0, 9].map(|margin| Call::Listing { margin }));
     let previews = literals.iter().step_by(4).zip([-1, 0]);
     calls.extend(previews.flat_map(|(&literal, margin)| previews_into(literal, margin)));
+    // The largest book has 253 among its literals, and takes a run of 512 entries.
+    let claims = [0, 253].into_iter().flat_map(Claim::both);
+    calls.extend(
+        claims
+            .zip([512, 512, 511, 513])
+            .map(|(claim, length)| Call::MakeSheet { claim, length }),
+    );
     calls.extend(literals.iter().map(|&literal| Call::Verdict(literal)));
     let questions = literals.iter().flat_map(|&literal| questions(literal));
     calls.extend(questions.map(Call::Search));

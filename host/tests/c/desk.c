@@ -1,7 +1,7 @@
 /* A desk in C: loads a book whose rule spells a name in other capitals, puts in a fact, asks for verdict, search and
  * model, and prints the listing; then loads a file of no bytes and prints its listing. Sizes the book, the file of no
  * bytes and one that is refused. Prints the working order and the model by groups of two books and of none, a lesson
- * in which one name clashes, and previews. */
+ * in which one name clashes, previews, and proof sheets. */
 #include "mezhkura.h"
 
 #include <stdio.h>
@@ -25,6 +25,10 @@ _Static_assert(sizeof(mezhkura_listing_reply) == 16, "reply to a listing");
 _Static_assert(sizeof(mezhkura_order) == 528, "working order");
 _Static_assert(sizeof(mezhkura_order_reply) == 536, "reply to the call for the working order");
 _Static_assert(sizeof(mezhkura_groups_reply) == 72, "reply to the call for the model by groups");
+_Static_assert(sizeof(mezhkura_sheet_entry) == 8, "entry of a proof sheet");
+_Static_assert(sizeof(mezhkura_check_reply) == 16, "reply to a check");
+_Static_assert(sizeof(mezhkura_make_reply) == 16, "reply to the call that makes a proof sheet");
+_Static_assert(MEZHKURA_MOST_SHEET == 512, "longest proof sheet");
 
 static void print_size(const char *file, size_t length)
 {
@@ -110,6 +114,64 @@ static void print_previews(void)
     fwrite(buffer, 1, listing.length, stdout);
 }
 
+/* The number and the index of a check. */
+static void print_check(mezhkura_check_reply check)
+{
+    printf(" %d %zu", check.number, check.index);
+}
+
+/* Makes a sheet in a run of so many entries, and prints the number, whether the count is within two entries per literal and
+ * the check accepts the sheet, and whether the entries behind it stayed. Which sheet it is is the engine's choice. */
+static void print_made(mezhkura_desk desk, size_t literal, uint8_t truth, size_t length)
+{
+    mezhkura_sheet_entry run[20];
+    memset(run, 7, sizeof run);
+    mezhkura_make_reply made = mezhkura_make_sheet(desk, literal, truth, run, length);
+    int shown = made.count > 0 && made.count <= 8 && mezhkura_check_sheet(desk, literal, truth, run, made.count).number == 0;
+    int stayed = 1;
+    for (size_t place = made.count; place < 20; place++)
+        stayed = stayed && run[place].kind == 0x707 && run[place].literal == 0x707 && run[place].rule == 0x707 &&
+                 run[place].group == 0x707;
+    printf(" %d %d %d", made.number, shown, stayed);
+}
+
+/* a is put in, and b holds unless a is shown. Sheets of our own that b is false, of which one lacks its reason and one has
+ * another order; then sheets that the engine makes; then the numbers that refuse a check and a maker. */
+static void print_sheets(void)
+{
+    const char *file = "name,a\nname,b\nrule,b,~a\nend\n";
+    mezhkura_desk desk = mezhkura_load(mezhkura_fresh(), (const uint8_t *)file, strlen(file)).desk;
+    desk = mezhkura_put_in(desk, 0).desk;
+    mezhkura_sheet_entry a_true = {MEZHKURA_TRUE, 0, MEZHKURA_MOST_RULES + 0, 0};
+    mezhkura_sheet_entry b_false = {MEZHKURA_FALSE, 2, 0, 9};
+    mezhkura_sheet_entry sheet[] = {a_true, b_false}, without[] = {b_false}, behind[] = {b_false, a_true};
+    static mezhkura_sheet_entry longer[MEZHKURA_MOST_SHEET + 1];
+    for (size_t place = 0; place <= MEZHKURA_MOST_SHEET; place++)
+        longer[place] = a_true;
+    print_check(mezhkura_check_sheet(desk, 2, 0, sheet, 2));
+    print_check(mezhkura_check_sheet(desk, 0, 1, sheet, 2));
+    print_check(mezhkura_check_sheet(desk, 0, 255, sheet, 1));
+    print_check(mezhkura_check_sheet(desk, 2, 0, without, 1));
+    print_check(mezhkura_check_sheet(desk, 2, 0, behind, 2));
+    sheet[1].literal = 4;
+    print_check(mezhkura_check_sheet(desk, 2, 0, sheet, 2));
+    printf("\n");
+    print_made(desk, 0, 1, 8);
+    print_made(desk, 2, 0, 20);
+    print_made(desk, 2, 1, 0);
+    print_made(desk, 2, 0, 7);
+    print_made(desk, 4, 0, 0);
+    print_made(mezhkura_fresh(), 4, 0, 0);
+    printf("\n");
+    print_check(mezhkura_check_sheet(mezhkura_fresh(), 4, 0, sheet, 0));
+    print_check(mezhkura_check_sheet(desk, 4, 0, sheet, 0));
+    print_check(mezhkura_check_sheet(desk, 2, 0, sheet, 0));
+    print_check(mezhkura_check_sheet(desk, 0, 1, longer, MEZHKURA_MOST_SHEET + 1));
+    print_check(mezhkura_check_sheet(desk, 0, 1, longer, MEZHKURA_MOST_SHEET));
+    print_check(mezhkura_check_sheet(desk, 2, 0, longer, MEZHKURA_MOST_SHEET));
+    printf("\n");
+}
+
 int main(void)
 {
     const char *file = "name,Brake_Held\nname,may_park\nrule,may_park,BRAKE_HELD\nend\n";
@@ -158,5 +220,6 @@ int main(void)
     print_groups(mezhkura_load(written, (const uint8_t *)circle, strlen(circle)).desk);
     print_clash();
     print_previews();
+    print_sheets();
     return 0;
 }
