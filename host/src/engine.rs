@@ -377,6 +377,8 @@ impl Calls for Desk {
 
 #[cfg(test)]
 mod bits;
+#[cfg(test)]
+mod meaning;
 
 #[cfg(test)]
 mod tests {

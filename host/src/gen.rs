@@ -1162,7 +1162,7 @@ fn make_sheet(random: &mut Random, size: Size, desk: &Desk) -> Call {
 
 /// A proof sheet to check, at times for a claim that it wasn't made for.
 fn check_sheet(random: &mut Random, size: Size, desk: &Desk) -> Call {
-    let (made_for, sheet) = sheets::claim_and_sheet(random, desk);
+    let (made_for, sheet) = sheets::claim_and_sheet(random, desk.matter(0).ok());
     let claim = match random.chance(1, 4) {
         true => sheets::any_claim(random, size),
         false => made_for,

@@ -175,13 +175,13 @@ impl<'a, D: Calls> Pair<'a, D> {
     /// the desk's own.
     fn look_at_changed_sheets(&mut self, random: &mut Random, count: usize) -> Result<(), String> {
         for turn in 0..count {
-            let (mut claim, mut sheet) = gen::sheets::claim_and_sheet(random, self.second);
+            let matter = self.second.matter(0).ok();
+            let (mut claim, mut sheet) = gen::sheets::claim_and_sheet(random, matter);
             if turn % 2 == 0 {
                 let own = made(claim, 2 * self.literals, &|run| {
                     self.desk.make_sheet(claim, run)
                 })?;
                 sheet = own.unwrap_or(sheet);
-                let matter = self.second.matter(claim.literal).ok();
                 for _ in 0..random.between(1, 3) {
                     gen::sheets::change(random, matter, &mut sheet);
                 }

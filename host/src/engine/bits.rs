@@ -1,49 +1,19 @@
-//! Desks of whatever bits. What they mean is read from their fields here, as
-//! `crates/book/specs/Book.antt` says it, and the working order and the model by groups are those of that
-//! meaning. Verdicts, the model call and the listing are those of the sets that stand. A preview is the change and
-//! the listing on a copy.
+//! Desks of whatever bits. The working order, the model by groups and proof sheets are those of what the bits mean.
+//! Verdicts, the model call and the listing are those of the sets that stand. A preview is the change and the listing
+//! on a copy.
 
+use super::meaning::{name_of, names_of, rules_of, CAPACITY};
 use super::{exports, members, Desk};
-use crate::answer::{Change, Model, ModelByGroups, Refused, Verdict};
-use crate::answer::{MOST_BODY_LITERALS, MOST_LISTING, MOST_NAMES, MOST_RULES};
+use crate::answer::{Change, Claim, Model, ModelByGroups, Refused, SheetEntry, Verdict};
+use crate::answer::{MOST_LISTING, MOST_NAMES, MOST_RULES};
 use crate::gen::{self, Random};
 use crate::previews::{previews_of, Previewed};
+use crate::second::{self, Halves, Matter, Program, Rule};
 use crate::second::{
     contradictory_name, model_by_groups, reach, read, verdict, word, working_order,
 };
-use crate::second::{Entry, Program, Rule, MOST_LETTERS};
-use std::collections::BTreeSet;
-
-/// The literals that a set has room for.
-const CAPACITY: usize = 256;
-
-/// How many names a book has: a count past the table stands for a full table.
-fn names_of(book: &exports::Book) -> usize {
-    book.names.min(MOST_NAMES)
-}
-
-fn rules_of(book: &exports::Book) -> Vec<Rule> {
-    let rule = |r: usize| Rule {
-        head: usize::from(book.heads[r]) % CAPACITY,
-        body: body_of(book, r).iter().copied().map(entry_of).collect(),
-    };
-    (0..book.rules.min(MOST_RULES)).map(rule).collect()
-}
-
-/// The stored entries of a rule: from its start to the next one's, as far as the table goes.
-fn body_of(book: &exports::Book, r: usize) -> &[u16] {
-    let end = usize::from(book.starts[r + 1]).min(MOST_BODY_LITERALS);
-    let body = book.entries.get(usize::from(book.starts[r])..end);
-    body.unwrap_or(&[])
-}
-
-/// Twice the literal, and one more where `not` stands before it.
-fn entry_of(stored: u16) -> Entry {
-    Entry {
-        literal: usize::from(stored / 2) % CAPACITY,
-        default: stored % 2 == 1,
-    }
-}
+use crate::sheets::UNTOUCHED;
+use std::collections::{BTreeMap, BTreeSet};
 
 /// The program of a desk's book and facts, which may have every literal that a set has room for.
 fn program_of(desk: &exports::Desk) -> Program {
@@ -323,15 +293,6 @@ fn clash_of(lesson: &exports::Lesson) -> Option<usize> {
     (0..CAPACITY / 2).find(|n| has(truths, 2 * n) && has(truths, 2 * n + 1))
 }
 
-/// The bytes of a name. One past the book's is empty.
-fn name_of(book: &exports::Book, number: usize) -> &[u8] {
-    if number >= names_of(book) {
-        return &[];
-    }
-    let length = usize::from(book.lengths[number]).min(MOST_LETTERS);
-    &book.text[MOST_LETTERS * number..][..length]
-}
-
 /// The listing by the sets that stand.
 fn listing_due(desk: &exports::Desk) -> Vec<u8> {
     let exports::Desk { shelf, lesson } = desk;
@@ -510,5 +471,173 @@ fn previews_are_settled_for_all_bits() {
     assert!(previewed.clashing > 100 && previewed.mended > 100);
     for number in [0, 20, 21, 22, 23, 25] {
         assert!(previewed.numbers[&number] > 300, "{number}: {previewed:?}");
+    }
+}
+
+/// A desk of whatever bits as proof sheets are about it.
+struct OfBits {
+    desk: exports::Desk,
+    literals: usize,
+    rules: Vec<Rule>,
+    facts: BTreeSet<usize>,
+    halves: Halves,
+}
+
+impl OfBits {
+    fn new(desk: exports::Desk) -> OfBits {
+        OfBits {
+            desk,
+            literals: 2 * names_of(&desk.shelf.book),
+            rules: rules_of(&desk.shelf.book),
+            facts: members(desk.lesson.facts),
+            halves: program_of(&desk).halves(),
+        }
+    }
+
+    fn matter(&self) -> Matter<'_> {
+        Matter {
+            literals: self.literals,
+            rules: &self.rules,
+            facts: &self.facts,
+        }
+    }
+
+    /// Whether no rule and no fact has a literal that the book doesn't have, as every list of calls leaves it.
+    fn is_within(&self) -> bool {
+        let bodies = self.rules.iter().flat_map(|rule| &rule.body);
+        let of_bodies = bodies.map(|entry| entry.literal);
+        let of_heads = self.rules.iter().map(|rule| rule.head);
+        let mut all = of_bodies.chain(of_heads).chain(self.facts.iter().copied());
+        all.all(|literal| literal < self.literals)
+    }
+
+    /// What refuses a claim, whatever the sheet or the run.
+    fn refusal(&self, claim: Claim) -> Option<Refused> {
+        match self.desk.shelf.loaded {
+            0 => Some(Refused::NoBook),
+            _ => (claim.literal >= self.literals).then_some(Refused::NoSuchLiteral),
+        }
+    }
+
+    fn is_so(&self, claim: Claim) -> bool {
+        match claim.truth {
+            true => self.halves.truths[claim.literal],
+            false => !self.halves.nonfalse[claim.literal],
+        }
+    }
+
+    fn input(&self, claim: Claim) -> String {
+        format!("{claim} on a desk with {}", meaning(&self.desk))
+    }
+
+    /// Compares a check with all numbers of its reply with what is due, and what is accepted with M and N. Answers the
+    /// number.
+    fn check(&self, claim: Claim, truth: u8, sheet: &[SheetEntry]) -> u8 {
+        let Claim { literal, .. } = claim;
+        let (start, length) = (sheet.as_ptr(), sheet.len());
+        let reply =
+            unsafe { exports::mezhkura_check_sheet(self.desk, literal, truth, start, length) };
+        let due = match self.refusal(claim) {
+            Some(refused) => Err(refused),
+            None => second::check(self.matter(), claim, sheet),
+        };
+        let due = match due {
+            Ok(()) => (0, 0),
+            Err(Refused::DoesNotFollow { index }) => (27, index),
+            Err(refused) => (refused.number(), 0),
+        };
+        let input = || format!("{} by {}", self.input(claim), gen::sheets::spelt(sheet));
+        assert_eq!((reply.number, reply.index), due, "{}", input());
+        assert!(reply.number != 0 || self.is_so(claim), "{}", input());
+        reply.number
+    }
+
+    /// Has a sheet made in a run of so many entries, and looks at all that doesn't depend on which it is. Answers the
+    /// number, and the sheet.
+    fn make(&self, claim: Claim, truth: u8, length: usize) -> (u8, Vec<SheetEntry>) {
+        let mut run = vec![UNTOUCHED; length];
+        let (Claim { literal, .. }, start) = (claim, run.as_mut_ptr());
+        let reply =
+            unsafe { exports::mezhkura_make_sheet(self.desk, literal, truth, start, length) };
+        let input = || {
+            format!(
+                "{} in {length} entries: {}",
+                self.input(claim),
+                reply.number
+            )
+        };
+        assert!(reply.count <= 2 * self.literals, "{}", input());
+        assert_eq!(reply.count > 0, reply.number == 0, "{}", input());
+        let stayed = |entry: &SheetEntry| *entry == UNTOUCHED;
+        assert!(run[reply.count..].iter().all(stayed), "{}", input());
+        let number = match self.refusal(claim) {
+            Some(refused) => refused.number(),
+            None if !self.is_so(claim) => 28,
+            // The entries that a sheet needs may be of literals that the book doesn't have.
+            None if reply.number == 28 && !self.is_within() => 28,
+            None if length < 2 * self.literals => 25,
+            None => 0,
+        };
+        assert_eq!(reply.number, number, "{}", input());
+        run.truncate(reply.count);
+        (number, run)
+    }
+
+    /// Looks at the maker with runs around two entries per literal, and at its sheet, as it is and changed. Answers the
+    /// number for a long run.
+    fn check_made(&self, random: &mut Random, claim: Claim) -> u8 {
+        let truth = match claim.truth {
+            true => random.pick(&[1, 2, 128, 255]),
+            false => 0,
+        };
+        let bound = 2 * self.literals;
+        let (number, mut sheet) = self.make(claim, truth, bound);
+        for length in [bound + 5, bound.saturating_sub(1), 0] {
+            let (other, _) = self.make(claim, truth, length);
+            // Whether there is a sheet doesn't depend on the run.
+            let due = if number == 0 && length < bound {
+                25
+            } else {
+                number
+            };
+            assert_eq!(other, due, "{} in {length}", self.input(claim));
+        }
+        if number == 0 {
+            assert_eq!(self.check(claim, truth, &sheet), 0, "{}", self.input(claim));
+        }
+        gen::sheets::change(random, Some(self.matter()), &mut sheet);
+        self.check(claim, truth, &sheet);
+        number
+    }
+}
+
+#[test]
+fn sheets_are_settled_for_all_bits() {
+    let mut random = Random::new(17);
+    let (mut made, mut checked) = (BTreeMap::new(), BTreeMap::new());
+    let mut without_a_sheet = 0;
+    for _ in 0..400 {
+        let bits = OfBits::new(desk_of_bits(&mut random));
+        for literal in literals_to_preview(&mut random, bits.literals / 2) {
+            for claim in Claim::both(literal) {
+                let number = bits.check_made(&mut random, claim);
+                *made.entry(number).or_insert(0) += 1;
+                let loaded = bits.refusal(claim).is_none();
+                without_a_sheet += usize::from(loaded && number == 28 && bits.is_so(claim));
+            }
+        }
+        for _ in 0..20 {
+            let matter = Some(bits.matter()).filter(|matter| matter.literals > 0);
+            let (claim, sheet) = gen::sheets::claim_and_sheet(&mut random, matter);
+            let number = bits.check(claim, u8::from(claim.truth), &sheet);
+            *checked.entry(number).or_insert(0) += 1;
+        }
+    }
+    println!("made {made:?}, {without_a_sheet} without a sheet, checked {checked:?}");
+    for number in [0, 20, 21, 28] {
+        assert!(made[&number] > 200, "{number}: {made:?}");
+    }
+    for number in [0, 20, 21, 26, 27, 28] {
+        assert!(checked[&number] > 100, "{number}: {checked:?}");
     }
 }

@@ -2,7 +2,7 @@
 
 use super::{any_literal, shuffle, Random, Size};
 use crate::answer::{Claim, SheetEntry, MOST_RULES, MOST_SHEET};
-use crate::second::{sheet_for, Desk, Matter, Rule};
+use crate::second::{sheet_for, Matter, Rule};
 
 /// The entries of a sheet, ready to print. Entries that are repeated stand there once.
 pub fn spelt(sheet: &[SheetEntry]) -> String {
@@ -46,14 +46,14 @@ pub(super) fn any_run(random: &mut Random, literals: usize) -> usize {
 }
 
 /// A claim, most often one that is so, and a sheet to check it by: most often one that was made for it, as it is or
-/// changed, and else a random one.
-pub fn claim_and_sheet(random: &mut Random, desk: &Desk) -> (Claim, Vec<SheetEntry>) {
-    let literals = desk.book().map_or(0, |book| book.literals());
+/// changed, and else a random one. Without a book it is a claim about literal 0.
+pub fn claim_and_sheet(random: &mut Random, matter: Option<Matter>) -> (Claim, Vec<SheetEntry>) {
+    let literals = matter.map_or(0, |matter| matter.literals);
     let claim = Claim {
         literal: random.below(literals),
         truth: random.chance(1, 2),
     };
-    let Ok(matter) = desk.matter(claim.literal) else {
+    let Some(matter) = matter else {
         return (claim, some_entries(random, None));
     };
     let claim = a_claim_that_is_so(random, matter).unwrap_or(claim);
