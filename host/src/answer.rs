@@ -100,7 +100,7 @@ impl fmt::Display for Claim {
 
 /// An entry of a proof sheet. It is lent to the engine as it stands here: four numbers of 16 bits, in this order.
 #[repr(C)]
-#[derive(Clone, Copy, PartialEq, Eq)]
+#[derive(Clone, Copy, Default, PartialEq, Eq)]
 pub struct SheetEntry {
     /// 1 says that the literal is true, 0 that it is false. No other kind follows from anything.
     pub kind: u16,

@@ -43,12 +43,15 @@
 //! # Ok::<(), Refused>(())
 //! ```
 
+mod meaning;
+
 use crate::answer::{
     BookSize, Change, Claim, Model, ModelByGroups, Question, Refused, SheetEntry, Tree, Verdict,
-    WorkingOrder,
+    WorkingOrder, MOST_SHEET,
 };
 use crate::compare::Calls;
 use crate::exports;
+use crate::reasons::Reasons;
 use std::collections::BTreeSet;
 use std::fmt;
 
@@ -220,6 +223,32 @@ impl Desk {
         accepted(reply.number, 0)?;
         Ok(reply.count)
     }
+
+    /// Why a claim is so, in lines that a person reads, by a sheet that is made for it. Only what the claim needs is
+    /// there.
+    ///
+    /// Refused with 20 or 21, or with 28 where the claim isn't so.
+    pub fn reasons(&self, claim: Claim) -> Result<Reasons, Refused> {
+        let mut run = [SheetEntry::default(); MOST_SHEET];
+        let count = self.make_sheet(claim, &mut run)?;
+        self.reasons_by(claim, &run[..count])
+    }
+
+    /// The same by a sheet, no matter who wrote it. The lines are a sheet again, which [`Desk::check_sheet`] has to
+    /// accept before they are given.
+    ///
+    /// Refused as the check of the sheet is.
+    pub fn reasons_by(&self, claim: Claim, sheet: &[SheetEntry]) -> Result<Reasons, Refused> {
+        let exports::Desk { shelf, lesson } = &*self.0;
+        let book = meaning::book_of(&shelf.book);
+        Reasons::by_sheet(
+            &book,
+            &members(lesson.facts),
+            claim,
+            sheet,
+            |claim, sheet| self.check_sheet(claim, sheet),
+        )
+    }
 }
 
 impl fmt::Debug for Desk {
@@ -377,8 +406,6 @@ impl Calls for Desk {
 
 #[cfg(test)]
 mod bits;
-#[cfg(test)]
-mod meaning;
 
 #[cfg(test)]
 mod tests {

@@ -1,6 +1,7 @@
 //! The Rust side of the marking engine.
 //!
 //! - [`answer`]: verdicts, models and refusals, the words that both implementations answer in.
+//! - [`reasons`]: a proof sheet in lines that a person reads.
 //! - [`second`]: a second implementation, written from document 01 and not from the engine's code.
 //! - [`gen`]: books, files and lists of calls from a seed.
 //! - [`shrink`] and [`compare`]: run a list of calls on two desks, and find a short list that
@@ -22,6 +23,7 @@ mod exports;
 pub mod gen;
 pub mod previews;
 pub mod published;
+pub mod reasons;
 pub mod second;
 pub mod sheets;
 pub mod shrink;

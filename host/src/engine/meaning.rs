@@ -2,10 +2,19 @@
 
 use super::exports;
 use crate::answer::{MOST_BODY_LITERALS, MOST_NAMES, MOST_RULES};
-use crate::second::{Entry, Rule, MOST_LETTERS};
+use crate::second::{Book, Entry, Rule, MOST_LETTERS};
 
 /// The literals that a set has room for.
 pub const CAPACITY: usize = 256;
+
+/// The names and rules of a book. A loaded one has names of letters, digits and underscores.
+pub fn book_of(book: &exports::Book) -> Book {
+    let name = |number| String::from_utf8_lossy(name_of(book, number)).into_owned();
+    Book {
+        names: (0..names_of(book)).map(name).collect(),
+        rules: rules_of(book),
+    }
+}
 
 /// How many names a book has: a count past the table stands for a full table.
 pub fn names_of(book: &exports::Book) -> usize {

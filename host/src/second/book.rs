@@ -71,19 +71,26 @@ impl Book {
         for name in &self.names {
             file += &format!("name,{name}\n");
         }
-        for rule in &self.rules {
-            file += &format!("rule,{}", self.spelt(rule.head, false));
-            for entry in &rule.body {
-                file += &format!(",{}", self.spelt(entry.literal, entry.default));
-            }
-            file.push('\n');
+        for number in 0..self.rules.len() {
+            file += &format!("{}\n", self.rule_line(number));
         }
         file + "end\n"
     }
 
-    fn spelt(&self, literal: usize, default: bool) -> String {
-        let tilde = if default { "~" } else { "" };
+    /// The line of a rule in that file.
+    pub fn rule_line(&self, number: usize) -> String {
+        let rule = &self.rules[number];
+        let mut line = format!("rule,{}", self.spelt(rule.head));
+        for entry in &rule.body {
+            let tilde = if entry.default { "~" } else { "" };
+            line += &format!(",{tilde}{}", self.spelt(entry.literal));
+        }
+        line
+    }
+
+    /// A literal as that file spells it.
+    pub fn spelt(&self, literal: usize) -> String {
         let minus = if literal % 2 == 1 { "-" } else { "" };
-        format!("{tilde}{minus}{}", self.names[literal / 2])
+        format!("{minus}{}", self.names[literal / 2])
     }
 }

@@ -10,7 +10,8 @@ use super::sheets::{check, make, Matter};
 use super::trees::search;
 use super::verdicts::verdict;
 use crate::answer::{Change, Claim, Model, ModelByGroups, Question, Refused, SheetEntry};
-use crate::answer::{Verdict, WorkingOrder};
+use crate::answer::{Verdict, WorkingOrder, MOST_SHEET};
+use crate::reasons::Reasons;
 use std::collections::BTreeSet;
 
 /// A desk: a book, once one is loaded, and the facts put in. M and N don't stand here: each call that
@@ -136,6 +137,21 @@ impl Desk {
     /// Writes a proof sheet for a claim to the first entries of a run and answers how many it wrote.
     pub fn make_sheet(&self, claim: Claim, run: &mut [SheetEntry]) -> Result<usize, Refused> {
         make(self.matter(claim.literal)?, claim, run)
+    }
+
+    /// Why a claim is so, by a sheet that is made for it.
+    pub fn reasons(&self, claim: Claim) -> Result<Reasons, Refused> {
+        let mut run = [SheetEntry::default(); MOST_SHEET];
+        let count = self.make_sheet(claim, &mut run)?;
+        self.reasons_by(claim, &run[..count])
+    }
+
+    /// Why a claim is so, by a sheet that shows it.
+    pub fn reasons_by(&self, claim: Claim, sheet: &[SheetEntry]) -> Result<Reasons, Refused> {
+        let book = self.book_with(claim.literal)?;
+        Reasons::by_sheet(book, &self.facts, claim, sheet, |claim, sheet| {
+            self.check_sheet(claim, sheet)
+        })
     }
 
     /// What a proof sheet with a claim about this literal is about.
