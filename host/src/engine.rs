@@ -1,7 +1,7 @@
 //! The proved engine behind a safe type.
 //!
 //! ```
-//! use mezhkura::answer::{Question, Refused, Tree, Verdict};
+//! use mezhkura::answer::{Claim, Question, Refused, SheetEntry, Tree, Verdict, MOST_SHEET};
 //! use mezhkura::engine::{self, Desk};
 //!
 //! let file = b"name,brake_held\nname,may_park\nrule,may_park,brake_held\nend\n";
@@ -35,6 +35,20 @@
 //! desk.preview_put_in(1, &mut buffer)?;
 //! assert!(buffer.starts_with(b"contradiction,2,1,2,1,brake_held\n"));
 //! assert_eq!(desk.verdict(2)?, Verdict::True);
+//!
+//! // When a mark is doubted: a proof sheet, which the check accepts no matter who wrote it, and its reasons in words.
+//! let claim = Claim { literal: 2, truth: true };
+//! let mut run = [SheetEntry::default(); MOST_SHEET];
+//! let count = desk.make_sheet(claim, &mut run)?;
+//! desk.check_sheet(claim, &run[..count])?;
+//! let reasons = desk.reasons_by(claim, &run[..count])?;
+//! assert_eq!(
+//!     reasons.to_string(),
+//!     "1. brake_held is true: it is put in\n\
+//!      2. may_park is true by rule,may_park,brake_held: brake_held is true (line 1)\n"
+//! );
+//! let claim = Claim { literal: 2, truth: false };
+//! assert_eq!(desk.make_sheet(claim, &mut run), Err(Refused::NotShown));
 //!
 //! // `brake_held` is shown and shown not to be. `may_park` depends on it, and neither has a verdict.
 //! desk.put_in(1)?;

@@ -1,7 +1,7 @@
 //! The example books have the listings that stand beside them, and the books of the guide the listings,
-//! previews, figures, answer sets and working orders below them.
+//! previews, reasons, figures, answer sets and working orders below them.
 
-use mezhkura::answer::{Change, Refused, MOST_LISTING};
+use mezhkura::answer::{Change, Claim, Refused, MOST_LISTING};
 use mezhkura::second::{answer_sets, program_output, read, size, Book, Desk, Program};
 use std::collections::{BTreeMap, BTreeSet};
 use std::fs;
@@ -114,6 +114,31 @@ fn preview_of(desk: &Desk, change: Change, spelt: &str) -> String {
         .unwrap_or_else(|refused| format!("{refused}\n"))
 }
 
+/// The reasons of a claim, as "may_park is true", or the number and the words of its refusal.
+fn reasons_of(desk: &Desk, claim: &str) -> String {
+    let (spelt, truth) = claim.split_once(" is ").expect("a claim");
+    let claim = Claim {
+        literal: literal_of(desk, spelt),
+        truth: truth == "true",
+    };
+    let told = desk.reasons(claim).map(|reasons| reasons.to_string());
+    #[cfg(feature = "engine")]
+    assert_eq!(told, engine_reasons(desk, claim), "{spelt}");
+    told.unwrap_or_else(|refused| format!("{refused}\n"))
+}
+
+/// The engine may make another sheet. Of those that the guide shows the reasons are the same.
+#[cfg(feature = "engine")]
+fn engine_reasons(desk: &Desk, claim: Claim) -> Result<String, Refused> {
+    let mut engine = mezhkura::engine::Desk::fresh();
+    let book = desk.book().expect("a book is loaded");
+    engine.load(book.to_file().as_bytes())?;
+    desk.facts()
+        .iter()
+        .try_for_each(|&fact| engine.put_in(fact))?;
+    engine.reasons(claim).map(|reasons| reasons.to_string())
+}
+
 /// The names of a desk's book in working order, a line for each group.
 fn order_of(desk: &Desk) -> Vec<String> {
     let book = desk.book().expect("a book is loaded");
@@ -195,6 +220,12 @@ impl Said {
                     ("preview", preview(Change::PutIn, spelt))
                 } else if let Some(spelt) = kind.strip_prefix("preview of taking out ") {
                     ("preview", preview(Change::TakeOut, spelt))
+                } else if let Some(claim) = kind.strip_prefix("why ") {
+                    let (claim, desk) = match claim.split_once(" in ") {
+                        Some((claim, path)) => (claim, desk_with(&example(path), "")),
+                        None => (claim, desk_with(book, facts)),
+                    };
+                    ("reasons", reasons_of(&desk, claim))
                 } else if let Some(path) = kind.strip_prefix("size of ") {
                     ("size", figures(&example(path)))
                 } else if let Some(path) = kind.strip_prefix("contradictory lines of ") {
@@ -224,7 +255,7 @@ fn books_of_the_guide_have_what_stands_below_them() {
     }
     println!("{shown:?}");
     assert!(shown["listing"] >= 20, "{shown:?}");
-    for kind in ["preview", "size", "answer sets", "order"] {
+    for kind in ["preview", "reasons", "size", "answer sets", "order"] {
         assert!(shown[kind] >= 3, "{shown:?}");
     }
 }
