@@ -1,7 +1,8 @@
 //! The edges that document 01 names under "Run", every refusal number with its line, and what document 02
 //! adds to them.
 
-use mezhkura::answer::{Change, Question, Refused, Tree, Verdict, MOST_LISTING};
+use mezhkura::answer::{Change, Claim, Question, Refused, SheetEntry, Tree, Verdict};
+use mezhkura::answer::{MOST_LISTING, MOST_SHEET};
 use mezhkura::gen;
 use mezhkura::second::{program_output, read, size, Desk};
 
@@ -432,7 +433,7 @@ fn question(literal: usize) -> Question {
 }
 
 #[test]
-fn number_20_comes_before_21_and_25() {
+fn number_20_comes_before_all_others_of_the_state() {
     let mut fresh = Desk::fresh();
     assert_eq!(fresh.put_in(999), Err(Refused::NoBook));
     assert_eq!(fresh.take_out(0), Err(Refused::NoBook));
@@ -442,6 +443,10 @@ fn number_20_comes_before_21_and_25() {
     assert_eq!(fresh.working_order(), Err(Refused::NoBook));
     assert_eq!(fresh.model_by_groups(), Err(Refused::NoBook));
     assert_eq!(fresh.listing(&mut []), Err(Refused::NoBook));
+    for claim in Claim::both(999) {
+        assert_eq!(fresh.check_sheet(claim, &[]), Err(Refused::NoBook));
+        assert_eq!(fresh.make_sheet(claim, &mut []), Err(Refused::NoBook));
+    }
     for (change, literal) in [(Change::PutIn, 999), (Change::TakeOut, 0)] {
         assert_eq!(
             fresh.preview(change, literal, &mut []),
@@ -584,6 +589,56 @@ fn assert_preview(desk: &Desk, change: Change, listing: &[u8]) {
         let accepted = (Ok(length), written);
         assert_eq!(previewed(desk, change, 0, length + more), accepted);
     }
+}
+
+/// Document 02, A.3: literal 2n - 1 and 2n with n names, runs of 4n - 1 and 4n entries, and sheets of no entries, of 1,
+/// of 512 and of 513. The largest book has a run as long as the longest sheet.
+#[test]
+fn sheets_have_their_numbers_at_the_edges() {
+    let untouched = SheetEntry {
+        kind: 7,
+        literal: 7,
+        rule: 7,
+        group: 7,
+    };
+    for names in [1, 64, 128] {
+        let desk = desk(&file_with_names(names));
+        let (edge, bound) = (2 * names, 4 * names);
+        let claim = |literal: usize, truth: bool| Claim { literal, truth };
+        let own = claim(edge - 1, false);
+        let make = |claim: Claim, length: usize| {
+            let mut run = vec![untouched; length];
+            let made = desk.make_sheet(claim, &mut run);
+            let stayed = |entry: &SheetEntry| *entry == untouched;
+            assert!(run[made.unwrap_or(0)..].iter().all(stayed));
+            made
+        };
+        assert_eq!(make(own, bound), Ok(1));
+        assert_eq!(make(own, MOST_SHEET + 1), Ok(1));
+        assert_eq!(make(own, bound - 1), Err(Refused::BufferTooShort));
+        assert_eq!(make(own, 0), Err(Refused::BufferTooShort));
+        // 21 comes before 28, and that before 25.
+        assert_eq!(make(claim(edge - 1, true), 0), Err(Refused::NotShown));
+        for literal in [edge, edge + 1, usize::MAX] {
+            let past = claim(literal, true);
+            assert_eq!(make(past, 0), Err(Refused::NoSuchLiteral));
+            assert_eq!(desk.check_sheet(past, &[]), Err(Refused::NoSuchLiteral));
+        }
+        let entry = SheetEntry {
+            kind: SheetEntry::FALSE,
+            literal: (edge - 1) as u16,
+            ..untouched
+        };
+        for (length, due) in [
+            (0, Err(Refused::SheetLength)),
+            (1, Ok(())),
+            (MOST_SHEET, Ok(())),
+            (MOST_SHEET + 1, Err(Refused::SheetLength)),
+        ] {
+            assert_eq!(desk.check_sheet(own, &vec![entry; length]), due);
+        }
+    }
+    assert_eq!(MOST_SHEET, 512);
 }
 
 /// Document 02, A.7: 47 bytes for the header, and for each name its number, 16 bytes, twice `contradictory`

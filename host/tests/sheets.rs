@@ -302,6 +302,82 @@ fn contradictory_lessons_have_sheets() {
     }
 }
 
+/// Claims about literals that M and N leave open have no sheet.
+fn check_undefined(desk: &Desk, literals: &[usize]) {
+    for claim in literals.iter().flat_map(|&literal| Claim::both(literal)) {
+        let made = desk.make_sheet(claim, &mut [f(0, 0); 16]);
+        assert_eq!(made, Err(Refused::NotShown), "{claim}");
+        #[cfg(feature = "engine")]
+        engine::make(desk, claim, 16, Err(Refused::NotShown));
+    }
+}
+
+/// Cases 1 to 11 of document 01.
+#[test]
+fn cases_have_sheets() {
+    let case = |names: &str, rules: &str| {
+        let lines = |first: &str, text: &str| -> String {
+            let fields = text.split_terminator(';');
+            fields.map(|field| format!("{first},{field}\n")).collect()
+        };
+        desk(
+            &(lines("name", names) + &lines("rule", rules) + "end\n"),
+            &[],
+        )
+    };
+    let case_1 = case(
+        "moving;locked;fault;stalled",
+        "moving,~locked;locked,~moving;fault,moving,~stalled;-locked;stalled,~stalled",
+    );
+    check_all(
+        &case_1,
+        &[
+            (is_true(0), &[t(3, 3), f(2, 0), t(0, 0)], Ok(())),
+            (is_false(1), &[f(1, 0)], Ok(())),
+            (is_true(4), &[t(3, 3), f(2, 0), t(0, 0), t(4, 2)], at(3)),
+        ],
+    );
+    check_undefined(&case_1, &[4, 6]);
+    check_all(&case("a", "a,a"), &[(is_false(0), &[f(0, 0)], Ok(()))]);
+    let case_3 = case("a", "a,~a");
+    check_all(&case_3, &[(is_false(0), &[f(0, 0)], at(0))]);
+    check_undefined(&case_3, &[0]);
+    let case_4 = [
+        (is_true(0), &[t(0, 0)][..], Ok(())),
+        (is_false(0), &[t(1, 1), f(0, 0)], Ok(())),
+    ];
+    check_all(&case("a", "a;-a"), &case_4);
+    let mut case_5 = case("a;b", "a,~b;b,~a;-a");
+    let b_is_true = (is_true(2), &[t(1, 2), f(0, 0), t(2, 1)][..], Ok(()));
+    check_all(&case_5, &[b_is_true]);
+    let f_is_false = (is_false(0), &[t(3, 3), f(0, 0), f(2, 0)][..], Ok(()));
+    let case_6 = case("f;s;d", "f,s;s,~d;d,~d;-s");
+    check_all(&case_6, &[f_is_false]);
+    check_undefined(&case_6, &[4]);
+    let case_7 = (is_true(0), &[f(2, 0), t(0, 0)][..], Ok(()));
+    check_all(&case("a;b", "a,~b"), &[case_7]);
+    let case_8 = (is_true(1), &[f(0, 0), t(1, 0)][..], Ok(()));
+    check_all(&case("a", "-a,~a"), &[case_8]);
+    check_undefined(&case("a", "a,~-a;-a,~a"), &[0, 1]);
+    check_all(
+        &case("", ""),
+        &[(is_false(0), &[f(0, 0)], Err(Refused::NoSuchLiteral))],
+    );
+    // Case 11: both claims about a and about b are so, until the fact is taken out.
+    case_5.put_in(0).expect("the fact is out");
+    check_all(
+        &case_5,
+        &[
+            b_is_true,
+            (is_true(0), &[put_in(0)], Ok(())),
+            (is_false(0), &[t(1, 2), f(0, 0)], Ok(())),
+            (is_false(2), &[put_in(0), f(2, 0)], Ok(())),
+        ],
+    );
+    case_5.take_out(0).expect("the fact is in");
+    check_all(&case_5, &[b_is_true, (is_true(0), &[put_in(0)], at(0))]);
+}
+
 #[cfg(feature = "engine")]
 mod engine {
     use super::{Claim, Refused, SheetEntry};

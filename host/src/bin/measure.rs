@@ -1,7 +1,7 @@
 //! Measures the engine beside the second implementation: `cargo run --release --features engine --bin
 //! measure`. It prints the tables of docs/MEASUREMENTS.md.
 
-use mezhkura::answer::{Question, Tree, MOST_LISTING, MOST_NAMES};
+use mezhkura::answer::{Claim, Question, SheetEntry, Tree, MOST_LISTING, MOST_NAMES, MOST_SHEET};
 use mezhkura::engine::{self, Desk};
 use mezhkura::gen::{self, Random};
 use mezhkura::second::{self, Book};
@@ -22,6 +22,7 @@ fn main() -> ExitCode {
             print_groups();
             print_clashes();
             print_previews();
+            print_sheets();
             print_sizes();
             print_searches();
             print_stack();
@@ -343,9 +344,7 @@ fn print_groups() {
 /// The fact that comes and goes is a rule of the book too, where it has one without a body, so that the
 /// model stays.
 fn times_of_groups(engine: &Desk, other: &second::Desk) -> [f64; 6] {
-    let book = other.book().expect("a book is loaded");
-    let fact = book.rules.iter().find(|rule| rule.body.is_empty());
-    let fact = fact.map_or(FACT, |rule| rule.head);
+    let fact = fact_of(other);
     let mut changed = engine.clone();
     let mut times = times_in_turns([
         &mut || drop(black_box(black_box(engine).working_order())),
@@ -466,6 +465,75 @@ fn times_of_previews(desk: &Desk) -> [f64; 5] {
         &mut || keep(with.preview_take_out(black_box(FACT), &mut four)),
     ])
     .map(micros)
+}
+
+/// A proof sheet made and checked beside a change of the facts, which works one model out, and beside the second
+/// implementation's.
+fn print_sheets() {
+    println!();
+    println!(
+        "| book | entries | make, µs | check, µs | reasons, µs | change, µs | make / change \
+         | check / change | second's make, µs | second's check, µs |"
+    );
+    println!("|---|---|---|---|---|---|---|---|---|---|");
+    for Sample { label, file } in samples().into_iter().chain(books_of_many_rounds()) {
+        let (mut engine, mut other) = (Desk::fresh(), second::Desk::fresh());
+        engine.load(&file).expect("the book loads");
+        other.load(&file).expect("the book loads");
+        let (claim, sheet) = first_sheet(&engine, &other);
+        let times = times_of_sheets(&engine, &other, claim, &sheet);
+        let [make, check, reasons, change, rest @ ..] = times.map(|time| format!("{time:.2}"));
+        println!(
+            "| {label} | {} | {make} | {check} | {reasons} | {change} | {} | {} | {} |",
+            sheet.len(),
+            ratio(times[0], times[3]),
+            ratio(times[1], times[3]),
+            rest.join(" | ")
+        );
+    }
+}
+
+/// The first claim about a literal of a desk's book that is so, and the engine's sheet for it.
+fn first_sheet(engine: &Desk, other: &second::Desk) -> (Claim, Vec<SheetEntry>) {
+    let literals = other.book().expect("a book is loaded").literals();
+    let mut run = vec![SheetEntry::default(); MOST_SHEET];
+    let mut claims = (0..literals).flat_map(Claim::both);
+    let made = |claim| Some((claim, engine.make_sheet(claim, &mut run).ok()?));
+    let (claim, count) = claims.find_map(made).expect("some claim is so");
+    run.truncate(count);
+    (claim, run)
+}
+
+/// Microseconds of a sheet made, one checked, its reasons and a change, and of the second implementation's sheet made
+/// and of its check of the engine's sheet.
+///
+/// The fact that comes and goes is a rule of the book too, where it has one without a body, so that the model stays.
+fn times_of_sheets(
+    engine: &Desk,
+    other: &second::Desk,
+    claim: Claim,
+    sheet: &[SheetEntry],
+) -> [f64; 6] {
+    let fact = fact_of(other);
+    let mut changed = engine.clone();
+    let [mut run, mut second_run] = [[SheetEntry::default(); MOST_SHEET]; 2];
+    let mut times = times_in_turns([
+        &mut || keep(engine.make_sheet(black_box(claim), &mut run)),
+        &mut || keep(engine.check_sheet(black_box(claim), black_box(sheet))),
+        &mut || keep(engine.reasons_by(black_box(claim), black_box(sheet))),
+        &mut || put_in_and_out(&mut changed, fact),
+        &mut || keep(other.make_sheet(black_box(claim), &mut second_run)),
+        &mut || keep(other.check_sheet(black_box(claim), black_box(sheet))),
+    ]);
+    times[3] /= 2;
+    times.map(micros)
+}
+
+/// A literal to put in and take out: one that a rule without a body has as its head, where there is one.
+fn fact_of(desk: &second::Desk) -> usize {
+    let book = desk.book().expect("a book is loaded");
+    let fact = book.rules.iter().find(|rule| rule.body.is_empty());
+    fact.map_or(FACT, |rule| rule.head)
 }
 
 /// Sizing beside the load of the same file, in turns. A file without its last line, which is `end`, is
@@ -645,10 +713,15 @@ fn call_on(call: &str, stack: usize) {
     let file = match call {
         "deep" => deep_file(),
         "clash" | "preview-clash" => clash_file(true),
+        "make-longest" | "check-longest" => file_of(gen::bound_book(MOST_NAMES)),
         _ => full_file(1),
     };
     let mut desk = Desk::fresh();
     desk.load(&file).expect("the book loads");
+    let mut other = second::Desk::fresh();
+    other.load(&file).expect("the book loads");
+    let (claim, sheet) = first_sheet(&desk, &other);
+    let mut run = vec![SheetEntry::default(); MOST_SHEET];
     if matches!(call, "clash" | "preview-clash") {
         desk.put_in(0).expect("the fact is out");
     }
@@ -660,6 +733,8 @@ fn call_on(call: &str, stack: usize) {
         "model" => desk.model().map(drop),
         "listing" => desk.listing(&mut buffer).map(drop),
         "preview" | "preview-clash" => desk.preview_put_in(FACT, &mut buffer).map(drop),
+        "make" | "make-longest" => desk.make_sheet(claim, &mut run).map(drop),
+        "check" | "check-longest" => desk.check_sheet(claim, &sheet),
         "order" => desk.working_order().map(drop),
         "by-groups" => desk.model_by_groups().map(drop),
         "deep" => desk.search(plain(Tree::TU, 0)).map(drop),
@@ -719,6 +794,10 @@ fn print_stack() {
             "preview of putting in with a clash that all names reach",
             "preview-clash",
         ),
+        ("proof sheet made on the full random book", "make"),
+        ("proof sheet checked on the full random book", "check"),
+        ("proof sheet made on the book `bound`", "make-longest"),
+        ("proof sheet checked on the book `bound`", "check-longest"),
         ("working order of the full random book", "order"),
         ("model by groups of the full random book", "by-groups"),
         ("search of the deep book, 60 and 60 names", "deep"),
