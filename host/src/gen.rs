@@ -1151,11 +1151,15 @@ fn call(random: &mut Random, size: Size, desk: &Desk) -> Call {
     }
 }
 
-/// A proof sheet to make, at times for a claim about a literal that no book has.
+/// A proof sheet to make, most often for a claim about a literal of the book.
 fn make_sheet(random: &mut Random, size: Size, desk: &Desk) -> Call {
     let literals = desk.book().map_or(0, |book| book.literals());
+    let mut claim = sheets::any_claim(random, size);
+    if random.chance(3, 4) {
+        claim.literal = random.below(literals);
+    }
     Call::MakeSheet {
-        claim: sheets::any_claim(random, size),
+        claim,
         length: sheets::any_run(random, literals),
     }
 }

@@ -109,7 +109,8 @@ impl<'a, D: Calls> Pair<'a, D> {
         };
         let of = || format!("in {length} entries {who} makes {answer:?} to show that {claim}");
         if answer.as_ref().err() != due.as_ref() {
-            return Err(format!("{}, and {due:?} is due", of()));
+            let due = due.map_or("a sheet".to_string(), |refused| format!("{refused:?}"));
+            return Err(format!("{}, and {due} is due", of()));
         }
         if let Ok(sheet) = &answer {
             self.look_at_a_made_sheet(claim, sheet)

@@ -591,54 +591,66 @@ fn assert_preview(desk: &Desk, change: Change, listing: &[u8]) {
     }
 }
 
-/// Document 02, A.3: literal 2n - 1 and 2n with n names, runs of 4n - 1 and 4n entries, and sheets of no entries, of 1,
-/// of 512 and of 513. The largest book has a run as long as the longest sheet.
+/// An entry that no sheet has.
+const UNTOUCHED: SheetEntry = SheetEntry {
+    kind: 7,
+    literal: 7,
+    rule: 7,
+    group: 7,
+};
+
+/// What is made for a claim in a run of so many entries, those behind which stay.
+fn made(desk: &Desk, claim: Claim, length: usize) -> Result<usize, Refused> {
+    let mut run = vec![UNTOUCHED; length];
+    let made = desk.make_sheet(claim, &mut run);
+    let behind = &run[made.unwrap_or(0)..];
+    assert!(behind.iter().all(|entry| *entry == UNTOUCHED));
+    made
+}
+
+/// Document 02, A.3: literal 2n - 1 and 2n with n names, and runs of 4n - 1 and 4n entries. The largest book has a run
+/// as long as the longest sheet.
 #[test]
-fn sheets_have_their_numbers_at_the_edges() {
-    let untouched = SheetEntry {
-        kind: 7,
-        literal: 7,
-        rule: 7,
-        group: 7,
-    };
+fn sheets_are_made_in_runs_of_two_entries_per_literal() {
     for names in [1, 64, 128] {
         let desk = desk(&file_with_names(names));
         let (edge, bound) = (2 * names, 4 * names);
-        let claim = |literal: usize, truth: bool| Claim { literal, truth };
-        let own = claim(edge - 1, false);
-        let make = |claim: Claim, length: usize| {
-            let mut run = vec![untouched; length];
-            let made = desk.make_sheet(claim, &mut run);
-            let stayed = |entry: &SheetEntry| *entry == untouched;
-            assert!(run[made.unwrap_or(0)..].iter().all(stayed));
-            made
-        };
-        assert_eq!(make(own, bound), Ok(1));
-        assert_eq!(make(own, MOST_SHEET + 1), Ok(1));
-        assert_eq!(make(own, bound - 1), Err(Refused::BufferTooShort));
-        assert_eq!(make(own, 0), Err(Refused::BufferTooShort));
+        let [not_so, is_so] = Claim::both(edge - 1);
+        assert_eq!(made(&desk, is_so, bound), Ok(1));
+        assert_eq!(made(&desk, is_so, MOST_SHEET + 1), Ok(1));
+        assert_eq!(made(&desk, is_so, bound - 1), Err(Refused::BufferTooShort));
+        assert_eq!(made(&desk, is_so, 0), Err(Refused::BufferTooShort));
         // 21 comes before 28, and that before 25.
-        assert_eq!(make(claim(edge - 1, true), 0), Err(Refused::NotShown));
-        for literal in [edge, edge + 1, usize::MAX] {
-            let past = claim(literal, true);
-            assert_eq!(make(past, 0), Err(Refused::NoSuchLiteral));
-            assert_eq!(desk.check_sheet(past, &[]), Err(Refused::NoSuchLiteral));
-        }
-        let entry = SheetEntry {
-            kind: SheetEntry::FALSE,
-            literal: (edge - 1) as u16,
-            ..untouched
-        };
-        for (length, due) in [
-            (0, Err(Refused::SheetLength)),
-            (1, Ok(())),
-            (MOST_SHEET, Ok(())),
-            (MOST_SHEET + 1, Err(Refused::SheetLength)),
-        ] {
-            assert_eq!(desk.check_sheet(own, &vec![entry; length]), due);
+        assert_eq!(made(&desk, not_so, 0), Err(Refused::NotShown));
+        for claim in [edge, edge + 1, usize::MAX]
+            .into_iter()
+            .flat_map(Claim::both)
+        {
+            assert_eq!(made(&desk, claim, 0), Err(Refused::NoSuchLiteral));
+            assert_eq!(desk.check_sheet(claim, &[]), Err(Refused::NoSuchLiteral));
         }
     }
+}
+
+/// Document 02, A.3.
+#[test]
+fn sheets_have_1_to_512_entries() {
     assert_eq!(MOST_SHEET, 512);
+    let desk = desk("name,a\nend\n");
+    let entry = SheetEntry {
+        kind: SheetEntry::FALSE,
+        literal: 1,
+        ..UNTOUCHED
+    };
+    for (length, due) in [
+        (0, Err(Refused::SheetLength)),
+        (1, Ok(())),
+        (512, Ok(())),
+        (513, Err(Refused::SheetLength)),
+    ] {
+        let [_, claim] = Claim::both(1);
+        assert_eq!(desk.check_sheet(claim, &vec![entry; length]), due);
+    }
 }
 
 /// Document 02, A.7: 47 bytes for the header, and for each name its number, 16 bytes, twice `contradictory`

@@ -30,6 +30,14 @@ fn compile(more: &[&str]) -> Option<Output> {
     }
 }
 
+fn archive() -> PathBuf {
+    let folder = match std::env::var_os("MEZHKURA_ARCHIVE_DIR") {
+        Some(folder) => PathBuf::from(folder),
+        None => package().join("../target/staticlib"),
+    };
+    folder.join("libmezhkura.a")
+}
+
 fn assert_success(output: &Output) {
     let text = String::from_utf8_lossy(&output.stderr);
     assert!(output.status.success(), "{text}");
@@ -45,11 +53,7 @@ fn a_c_compiler_accepts_the_header() {
 #[test]
 #[cfg_attr(not(feature = "engine"), ignore = "needs the engine's archive")]
 fn a_c_program_works_on_a_desk() {
-    let folder = match std::env::var_os("MEZHKURA_ARCHIVE_DIR") {
-        Some(folder) => PathBuf::from(folder),
-        None => package().join("../target/staticlib"),
-    };
-    let archive = folder.join("libmezhkura.a");
+    let archive = archive();
     let program = Path::new(env!("CARGO_TARGET_TMPDIR")).join("desk");
     let words = [archive.as_path(), Path::new("-o"), program.as_path()]
         .map(|p| p.to_str().expect("a path in UTF-8"));

@@ -237,52 +237,47 @@ fn reasons_of_large_books_are_of_what_a_claim_needs() {
     }
 }
 
-/// Lines of which a claim needs none, a literal that is said twice, a group that is larger than it has to be, and one
-/// with its entries in an order that needs it whole.
+/// A sheet with entries that a claim doesn't need, a literal that is said twice, and a group that is larger than it has
+/// to be, in an order that needs it whole.
+fn sheet_with_more() -> [SheetEntry; 8] {
+    let entry = |kind, literal, rule, group| SheetEntry {
+        kind,
+        literal,
+        rule,
+        group,
+    };
+    let fact = MOST_RULES as u16;
+    [
+        entry(0, 1, 9, 2),
+        entry(1, 0, fact, 3),
+        entry(1, 0, fact, 3),
+        entry(0, 3, 9, 7),
+        entry(0, 2, 9, 7),
+        entry(0, 1, 9, 7),
+        entry(1, 4, 1, 3),
+        entry(1, 5, 2, 3),
+    ]
+}
+
 #[test]
 fn reasons_leave_out_what_isnt_needed() {
     let file = "name,a\nname,b\nname,c\nrule,b,~a\nrule,c,~b,a\nrule,-c,c\nend\n";
     let desk = left_by(&[Call::Load(file.as_bytes().to_vec()), Call::PutIn(0)]);
-    let put_in = |literal: u16| SheetEntry {
-        kind: 1,
-        literal,
-        rule: MOST_RULES as u16 + literal,
-        group: 3,
+    let told = |literal: usize, truth: bool| {
+        let reasons = desk.reasons_by(Claim { literal, truth }, &sheet_with_more());
+        reasons.map(|reasons| reasons.to_string())
     };
-    let by_rule = |literal: u16, rule: u16| SheetEntry {
-        rule,
-        ..put_in(literal)
-    };
-    let no = |literal: u16, group: u16| SheetEntry {
-        kind: 0,
-        literal,
-        rule: 9,
-        group,
-    };
-    let sheet = [
-        no(1, 2),
-        put_in(0),
-        put_in(0),
-        no(3, 7),
-        no(2, 7),
-        no(1, 7),
-        by_rule(4, 1),
-        by_rule(5, 2),
-    ];
-    let claim = |literal: usize, truth: bool| Claim { literal, truth };
-    let told = |claim: Claim| desk.reasons_by(claim, &sheet).map(|r| r.to_string());
     let first = "1. a is true: it is put in\n\
         2. b is false: it isn't put in, and no rule for it can apply\n   \
         rule,b,~a: a is true (line 1)\n";
-    assert_eq!(told(claim(2, false)), Ok(first.to_string()));
-    let second =
-        format!("{first}3. c is true by rule,c,~b,a: b is false (line 2), a is true (line 1)\n");
-    assert_eq!(told(claim(4, true)), Ok(second));
+    assert_eq!(told(2, false), Ok(first.to_string()));
+    let third = "3. c is true by rule,c,~b,a: b is false (line 2), a is true (line 1)\n";
+    assert_eq!(told(4, true), Ok(format!("{first}{third}")));
     let alone = "1. -a is false: it has no rule, and it isn't put in\n";
-    assert_eq!(told(claim(1, false)), Ok(alone.to_string()));
-    // c is undefined for no one: the sheet has no such claim.
-    assert_eq!(told(claim(4, false)), Err(Refused::NotShown));
-    assert_eq!(told(claim(6, false)), Err(Refused::NoSuchLiteral));
+    assert_eq!(told(1, false), Ok(alone.to_string()));
+    // It isn't among the entries, though it is so, or the book has no such literal.
+    assert_eq!(told(4, false), Err(Refused::NotShown));
+    assert_eq!(told(6, false), Err(Refused::NoSuchLiteral));
 }
 
 /// Literals that need each other stand together, and both literals of a clashing name have reasons.

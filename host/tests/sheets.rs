@@ -312,19 +312,21 @@ fn check_undefined(desk: &Desk, literals: &[usize]) {
     }
 }
 
-/// Cases 1 to 11 of document 01.
-#[test]
-fn cases_have_sheets() {
-    let case = |names: &str, rules: &str| {
-        let lines = |first: &str, text: &str| -> String {
-            let fields = text.split_terminator(';');
-            fields.map(|field| format!("{first},{field}\n")).collect()
-        };
-        desk(
-            &(lines("name", names) + &lines("rule", rules) + "end\n"),
-            &[],
-        )
+/// A desk with a book whose names, and whose rules without their first word, are parted by semicolons.
+fn case(names: &str, rules: &str) -> Desk {
+    let lines = |first: &str, text: &str| -> String {
+        let fields = text.split_terminator(';');
+        fields.map(|field| format!("{first},{field}\n")).collect()
     };
+    desk(
+        &(lines("name", names) + &lines("rule", rules) + "end\n"),
+        &[],
+    )
+}
+
+/// Document 01, cases 1 to 4.
+#[test]
+fn cases_1_to_4_have_sheets() {
     let case_1 = case(
         "moving;locked;fault;stalled",
         "moving,~locked;locked,~moving;fault,moving,~stalled;-locked;stalled,~stalled",
@@ -347,11 +349,13 @@ fn cases_have_sheets() {
         (is_false(0), &[t(1, 1), f(0, 0)], Ok(())),
     ];
     check_all(&case("a", "a;-a"), &case_4);
-    let mut case_5 = case("a;b", "a,~b;b,~a;-a");
-    let b_is_true = (is_true(2), &[t(1, 2), f(0, 0), t(2, 1)][..], Ok(()));
-    check_all(&case_5, &[b_is_true]);
-    let f_is_false = (is_false(0), &[t(3, 3), f(0, 0), f(2, 0)][..], Ok(()));
+}
+
+/// Document 01, cases 6 to 10.
+#[test]
+fn cases_6_to_10_have_sheets() {
     let case_6 = case("f;s;d", "f,s;s,~d;d,~d;-s");
+    let f_is_false = (is_false(0), &[t(3, 3), f(0, 0), f(2, 0)][..], Ok(()));
     check_all(&case_6, &[f_is_false]);
     check_undefined(&case_6, &[4]);
     let case_7 = (is_true(0), &[f(2, 0), t(0, 0)][..], Ok(()));
@@ -359,14 +363,19 @@ fn cases_have_sheets() {
     let case_8 = (is_true(1), &[f(0, 0), t(1, 0)][..], Ok(()));
     check_all(&case("a", "-a,~a"), &[case_8]);
     check_undefined(&case("a", "a,~-a;-a,~a"), &[0, 1]);
+    let case_10 = (is_false(0), &[f(0, 0)][..], Err(Refused::NoSuchLiteral));
+    check_all(&case("", ""), &[case_10]);
+}
+
+/// Document 01, cases 5 and 11: with a put in, both claims about a and about b are so.
+#[test]
+fn cases_5_and_11_have_sheets() {
+    let mut desk = case("a;b", "a,~b;b,~a;-a");
+    let b_is_true = (is_true(2), &[t(1, 2), f(0, 0), t(2, 1)][..], Ok(()));
+    check_all(&desk, &[b_is_true]);
+    desk.put_in(0).expect("the fact is out");
     check_all(
-        &case("", ""),
-        &[(is_false(0), &[f(0, 0)], Err(Refused::NoSuchLiteral))],
-    );
-    // Case 11: both claims about a and about b are so, until the fact is taken out.
-    case_5.put_in(0).expect("the fact is out");
-    check_all(
-        &case_5,
+        &desk,
         &[
             b_is_true,
             (is_true(0), &[put_in(0)], Ok(())),
@@ -374,8 +383,8 @@ fn cases_have_sheets() {
             (is_false(2), &[put_in(0), f(2, 0)], Ok(())),
         ],
     );
-    case_5.take_out(0).expect("the fact is in");
-    check_all(&case_5, &[b_is_true, (is_true(0), &[put_in(0)], at(0))]);
+    desk.take_out(0).expect("the fact is in");
+    check_all(&desk, &[b_is_true, (is_true(0), &[put_in(0)], at(0))]);
 }
 
 #[cfg(feature = "engine")]

@@ -246,3 +246,47 @@ fn lengthen(random: &mut Random, sheet: &mut Vec<SheetEntry>, place: usize) {
     let repeated = vec![sheet[place]; more];
     sheet.splice(place..place, repeated);
 }
+
+#[cfg(test)]
+mod tests {
+    use crate::answer::Refused;
+    use crate::gen::{calls, calls_on_clashes, Call, Random, SMALL};
+    use crate::second::Desk;
+    use std::collections::BTreeMap;
+
+    /// The calls of lists meet every number of the check and of the maker, and sheets of every kind of length.
+    #[test]
+    fn sheets_of_lists_meet_every_number() {
+        let mut random = Random::new(8);
+        let (mut checked, mut made) = (BTreeMap::new(), BTreeMap::new());
+        let (mut longest, mut longer) = (0, 0);
+        let number = |answer: Result<(), Refused>| answer.map_or_else(Refused::number, |()| 0);
+        for turn in 0..4_000 {
+            let mut desk = Desk::fresh();
+            let list = match turn % 4 {
+                0 => calls_on_clashes(&mut random, 6),
+                _ => calls(&mut random, SMALL),
+            };
+            for call in list {
+                match &call {
+                    Call::CheckSheet { claim, sheet } => {
+                        let answer = number(desk.check_sheet(*claim, sheet));
+                        *checked.entry(answer).or_insert(0) += 1;
+                        longest += usize::from(sheet.len() == 512);
+                        longer += usize::from(sheet.len() == 513);
+                    }
+                    Call::MakeSheet { claim, length } => {
+                        let mut run = vec![Default::default(); *length];
+                        let answer = desk.make_sheet(*claim, &mut run).map(drop);
+                        *made.entry(number(answer)).or_insert(0) += 1;
+                    }
+                    _ => call.change(&mut desk),
+                }
+            }
+        }
+        println!("checked {checked:?}, made {made:?}, {longest} of 512 entries, {longer} of 513");
+        assert!([0, 20, 21, 26, 27, 28].iter().all(|n| checked[n] > 80));
+        assert!([0, 20, 21, 25, 28].iter().all(|n| made[n] > 80));
+        assert!(longest > 3 && longer > 3);
+    }
+}

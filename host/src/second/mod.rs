@@ -26,6 +26,6 @@ pub use listing::{listing, program_output};
 pub use model::{contradictory_name, gamma, value, Halves, Program};
 pub use partial_stable::{least_model, partial_stable_models, PartialStable};
 pub use reader::{read, size};
-pub use sheets::{check, follows, sheet_for, Matter};
+pub use sheets::{check, sheet_for, Matter};
 pub use trees::{search, Walk};
 pub use verdicts::{verdict, word};

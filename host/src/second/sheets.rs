@@ -1,7 +1,8 @@
 //! Proof sheets: the check, and a maker (document 02, A.3).
 //!
 //! The check looks at each entry by itself, with the whole sheet around it. The maker goes by the definition of M
-//! and N, stage by stage: I(k) has its "true" entries, the literals outside Γs(I(k)) their "false" ones.
+//! and N: a claim has the stage k at which its literal comes into I(k + 1), or leaves Γs(I(k)), and from the claim that
+//! is to be shown it goes back to the claims that are needed, each of an earlier stage.
 
 use super::book::{complement, Entry, Rule, MOST_RULES};
 use super::model::{gamma, Program};
@@ -17,7 +18,7 @@ pub struct Matter<'a> {
     pub facts: &'a BTreeSet<usize>,
 }
 
-/// What the check answers to a claim about a literal of the book: 26, 27 or 28, or nothing where it accepts.
+/// What the check answers to a claim about a literal of the book. Refused with 26, 27 or 28.
 pub fn check(matter: Matter, claim: Claim, sheet: &[SheetEntry]) -> Result<(), Refused> {
     if sheet.is_empty() || sheet.len() > MOST_SHEET {
         return Err(Refused::SheetLength);
@@ -32,7 +33,7 @@ pub fn check(matter: Matter, claim: Claim, sheet: &[SheetEntry]) -> Result<(), R
 }
 
 /// Whether an entry of a sheet follows. Where those before it do, the first that doesn't is the one of 27.
-pub fn follows(matter: Matter, sheet: &[SheetEntry], index: usize) -> bool {
+fn follows(matter: Matter, sheet: &[SheetEntry], index: usize) -> bool {
     let entry = sheet[index];
     let literal = usize::from(entry.literal);
     if literal >= matter.literals {

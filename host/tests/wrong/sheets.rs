@@ -1,8 +1,8 @@
 //! Checks and makers of proof sheets that are wrong in one thing (document 02, A.3).
 
 use mezhkura::answer::{Claim, Refused, SheetEntry, MOST_RULES, MOST_SHEET};
-use mezhkura::second::{complement, follows, Desk, Matter, Rule};
-use std::collections::BTreeSet;
+use mezhkura::second::{complement, Desk, Entry, Matter};
+use std::ops::Range;
 
 /// What is wrong in a check.
 #[derive(Clone, Copy, Debug, PartialEq)]
@@ -23,7 +23,7 @@ pub enum Misjudged {
     AcceptsAnEndedNumber,
     /// Entries apart from each other with one number are one group.
     JoinsGroupsThatStandApart,
-    /// The number of a "true" entry's group is one that has ended.
+    /// The number of a "true" entry's group has ended too.
     EndsGroupsOfTrueEntries,
     /// An unknown literal ends the group.
     EndsTheGroupAtAnUnknownLiteral,
@@ -31,12 +31,11 @@ pub enum Misjudged {
     LeavesOutTheGroup,
     /// Each entry of a group is judged by those before it, and not the group whole.
     JudgesAGroupOneByOne,
-    /// What is in the group counts as already false for "true" entries behind its first one; here: for "not" in rules
-    /// of the group.
+    /// A body literal "not C" with C in the group answers a rule.
     TakesTheGroupForNot,
     /// A fact put in is no rule of a "false" entry.
     LeavesOutFacts,
-    /// A fact put in fails no "false" entry only if its complement is put in too.
+    /// Where both literals of a name are put in, they are no rules of "false" entries, whatever is already true.
     AsksForTheComplementAmongFacts,
     /// The complement of the head isn't asked.
     LeavesOutTheComplement,
@@ -147,27 +146,12 @@ impl Misjudged {
 
     /// The index that 27 has.
     fn fault(self, matter: Matter, sheet: &[SheetEntry]) -> Option<usize> {
-        // What is read in place of the sheet may have other numbers of groups. Ended ones are those of the sheet.
-        let ended = |index: usize| match self {
-            Misjudged::EndsTheGroupAtAnUnknownLiteral | Misjudged::JudgesAGroupOneByOne => {
-                has_an_ended_number(sheet, index)
-            }
-            _ => false,
-        };
         let sheet = self.misread(matter, sheet);
-        let mut indices = 0..sheet.len();
-        let fails = |index: &usize| ended(*index) || !self.follows(matter, &sheet, *index);
-        let first = indices.find(fails)?;
-        let together = |index: &usize| {
-            let [one, other] = [sheet[*index], sheet[first]].map(|entry| (entry.kind, entry.group));
-            one == other && one.0 == SheetEntry::FALSE
-        };
+        let fails = |index: &usize| !self.follows(matter, &sheet, *index);
+        let first = (0..sheet.len()).find(fails)?;
         Some(match self {
             Misjudged::TellsTheLastIndex => (0..sheet.len()).rfind(fails)?,
-            Misjudged::TellsTheGroupsFirstIndex => {
-                let before = (0..first).rev().take_while(together);
-                first - before.count()
-            }
+            Misjudged::TellsTheGroupsFirstIndex => self.group_around(&sheet, first, 0).start,
             Misjudged::CountsFromOne => first + 1,
             _ => first,
         })
@@ -176,203 +160,132 @@ impl Misjudged {
     /// What the check reads in place of a sheet, with as many entries.
     fn misread(self, matter: Matter, sheet: &[SheetEntry]) -> Vec<SheetEntry> {
         let mut read = sheet.to_vec();
-        match self {
-            Misjudged::AcceptsAnEndedNumber => number_by_runs(&mut read, |one, next| {
-                one.kind == next.kind && one.group == next.group
-            }),
-            Misjudged::EndsTheGroupAtAnUnknownLiteral => number_by_runs(&mut read, |one, next| {
-                let known = usize::from(one.literal) < matter.literals;
-                known && one.kind == next.kind && one.group == next.group
-            }),
-            Misjudged::JudgesAGroupOneByOne => number_by_runs(&mut read, |_, _| false),
-            Misjudged::TakesLiteralsByRemainder => {
-                for entry in &mut read {
-                    entry.literal %= matter.literals as u16;
-                }
+        for entry in &mut read {
+            match self {
+                Misjudged::TakesLiteralsByRemainder => entry.literal %= matter.literals as u16,
+                Misjudged::TakesOtherKindsForTrue => entry.kind = entry.kind.min(SheetEntry::TRUE),
+                _ => {}
             }
-            Misjudged::TakesOtherKindsForTrue => {
-                for entry in &mut read {
-                    entry.kind = entry.kind.min(SheetEntry::TRUE);
-                }
-            }
-            _ => {}
         }
         read
     }
 
-    /// Whether an entry follows.
     fn follows(self, matter: Matter, sheet: &[SheetEntry], index: usize) -> bool {
         let entry = sheet[index];
-        let right = |matter: Matter| follows(matter, sheet, index);
-        match (self, entry.kind) {
-            (Misjudged::PassesOverOtherKinds, 2..) => true,
-            (_, SheetEntry::TRUE) => self.true_follows(matter, sheet, index),
-            (_, SheetEntry::FALSE) => self.false_follows(matter, sheet, index),
-            _ => right(matter),
+        let is_known = usize::from(entry.literal) < matter.literals;
+        match entry.kind {
+            SheetEntry::TRUE => is_known && self.true_follows(matter, sheet, index),
+            SheetEntry::FALSE => is_known && self.false_follows(matter, sheet, index),
+            _ => self == Misjudged::PassesOverOtherKinds,
         }
     }
 
     fn true_follows(self, matter: Matter, sheet: &[SheetEntry], index: usize) -> bool {
         let SheetEntry { literal, rule, .. } = sheet[index];
         let (literal, number) = (usize::from(literal), usize::from(rule));
-        let mut read = sheet.to_vec();
-        let mut everything = BTreeSet::from_iter(0..matter.literals);
-        match self {
-            Misjudged::TakesEveryFactNumber if number >= MOST_RULES => {
-                read[index].rule = (MOST_RULES as u16).wrapping_add(read[index].literal);
+        let earlier = match self {
+            Misjudged::LooksAtLaterEntries => [&sheet[..index], &sheet[index + 1..]].concat(),
+            _ => sheet[..index].to_vec(),
+        };
+        let shown = |entry: &Entry| says(&earlier, entry.literal, !entry.default);
+        let is_fact_number = match self {
+            Misjudged::TakesEveryFactNumber => number >= MOST_RULES,
+            _ => number == MOST_RULES + literal,
+        };
+        let is_fact = matter.facts.contains(&literal);
+        match matter.rules.get(number) {
+            Some(rule) => {
+                let is_own = rule.head == literal || self == Misjudged::TakesARuleOfAnotherHead;
+                is_own && rule.body.iter().all(shown)
             }
-            Misjudged::TakesARuleOfAnotherHead if literal < matter.literals => {
-                // The rule with the literal for its head.
-                let mut rules = matter.rules.to_vec();
-                if let Some(rule) = rules.get_mut(number) {
-                    rule.head = literal;
-                }
-                let rules = &rules;
-                return follows(Matter { rules, ..matter }, sheet, index);
-            }
-            Misjudged::LooksAtLaterEntries => {
-                let entry = read.remove(index);
-                read.push(entry);
-                return follows(matter, &read, read.len() - 1);
-            }
-            Misjudged::TakesFactsThatAreNotPutIn => {
-                everything.extend(matter.facts);
-                let facts = &everything;
-                return follows(Matter { facts, ..matter }, sheet, index);
-            }
-            _ => {}
+            None => is_fact_number && (is_fact || self == Misjudged::TakesFactsThatAreNotPutIn),
         }
-        follows(matter, &read, index)
     }
 
     fn false_follows(self, matter: Matter, sheet: &[SheetEntry], index: usize) -> bool {
-        let entry = sheet[index];
-        let literal = usize::from(entry.literal);
-        let none = BTreeSet::new();
-        let with = |rules: &[Rule]| follows(Matter { rules, ..matter }, sheet, index);
-        let start = (0..index)
-            .rev()
-            .take_while(|&i| sheet[i].kind == entry.kind && sheet[i].group == entry.group)
-            .count();
-        let already = &sheet[..index - start];
-        match self {
-            Misjudged::LeavesOutFacts => {
-                let facts = &none;
-                follows(Matter { facts, ..matter }, sheet, index)
-            }
-            Misjudged::AsksForTheComplementAmongFacts => {
-                let both =
-                    matter.facts.contains(&literal) && matter.facts.contains(&complement(literal));
-                let facts = if both { &none } else { matter.facts };
-                follows(Matter { facts, ..matter }, sheet, index)
-            }
-            Misjudged::EndsGroupsOfTrueEntries => {
-                let ended = |e: &SheetEntry| e.kind == SheetEntry::TRUE && e.group == entry.group;
-                !already.iter().any(ended) && follows(matter, sheet, index)
-            }
-            Misjudged::JoinsGroupsThatStandApart => joined_follows(matter, sheet, index),
-            Misjudged::LeavesOutTheGroup => {
-                // The entry with a group of its own, and no rule that has its literal in the body and another
-                // answer.
-                let mut read = [already, &[entry]].concat();
-                let own = |rule: &&Rule| {
-                    rule.head == literal
-                        && rule.body.iter().any(|e| e.literal == literal && !e.default)
-                };
-                let others = |rule: &Rule| {
-                    let mut rule = rule.clone();
-                    rule.body.retain(|e| e.literal != literal || e.default);
-                    rule
-                };
-                let rules: Vec<Rule> = matter
-                    .rules
-                    .iter()
-                    .map(|rule| {
-                        if own(&rule) {
-                            others(rule)
-                        } else {
-                            rule.clone()
-                        }
-                    })
-                    .collect();
-                let place = read.len() - 1;
-                read[place].group = entry.group;
-                let rules = &rules;
-                follows(Matter { rules, ..matter }, &read, place)
-            }
-            Misjudged::TakesTheGroupForNot => {
-                let group: Vec<usize> = group_of(sheet, index).map(|e| e.literal.into()).collect();
-                let mut rules = matter.rules.to_vec();
-                for rule in &mut rules {
-                    rule.body
-                        .iter_mut()
-                        .filter(|e| e.default && group.contains(&e.literal))
-                        .for_each(|e| e.default = false);
-                }
-                with(&rules)
-            }
-            Misjudged::LeavesOutTheComplement => {
-                let said = Claim {
-                    literal: complement(literal),
-                    truth: true,
-                };
-                // Entries stay where they are, so that the group is the same.
-                let mut read = sheet.to_vec();
-                let own = |rule: &&Rule| rule.head == literal;
-                let uses = |rule: &Rule| rule.body.iter().any(|e| e.literal == said.literal);
-                if matter.rules.iter().filter(own).any(uses) {
-                    return follows(matter, sheet, index);
-                }
-                for entry in read.iter_mut().filter(|entry| entry.says(said)) {
-                    entry.kind = 2;
-                }
-                follows(matter, &read, index)
-            }
-            Misjudged::TakesOneAnsweredRule => {
-                let own = |rule: &&Rule| rule.head == literal;
-                let rules: Vec<Rule> = matter.rules.iter().filter(own).cloned().collect();
-                rules.is_empty() && with(&[]) || rules.chunks(1).any(with)
-            }
-            _ => follows(matter, sheet, index),
+        let number = sheet[index].group;
+        let is_own = |e: &SheetEntry| e.kind == SheetEntry::FALSE && e.group == number;
+        let ended = |e: &SheetEntry| match self {
+            Misjudged::AcceptsAnEndedNumber | Misjudged::JoinsGroupsThatStandApart => false,
+            Misjudged::EndsGroupsOfTrueEntries => e.kind <= SheetEntry::TRUE && e.group == number,
+            _ => is_own(e),
+        };
+        let whole = group_around(sheet, index);
+        let part = self.group_around(sheet, index, matter.literals);
+        let mut group = sheet[part.clone()].to_vec();
+        let mut already = &sheet[..part.start];
+        if self == Misjudged::JoinsGroupsThatStandApart {
+            group = sheet.iter().filter(|e| is_own(e)).copied().collect();
+            already = already.split(is_own).next().unwrap_or_default();
         }
+        let is_ended = sheet[..whole.start].iter().any(ended);
+        !is_ended && self.leaves_no_rule(matter, already, &group, sheet[index].literal.into())
+    }
+
+    /// The group that an entry is judged in.
+    fn group_around(self, sheet: &[SheetEntry], index: usize, known: usize) -> Range<usize> {
+        let whole = match sheet[index].kind {
+            SheetEntry::FALSE => group_around(sheet, index),
+            _ => index..index + 1,
+        };
+        let is_unknown = |i: &usize| usize::from(sheet[*i].literal) >= known;
+        match self {
+            Misjudged::JudgesAGroupOneByOne => index..index + 1,
+            Misjudged::EndsTheGroupAtAnUnknownLiteral => {
+                let start = (whole.start..index).rfind(is_unknown).map(|i| i + 1);
+                let end = (index..whole.end).find(is_unknown).map(|i| i + 1);
+                start.unwrap_or(whole.start)..end.unwrap_or(whole.end)
+            }
+            _ => whole,
+        }
+    }
+
+    fn leaves_no_rule(
+        self,
+        matter: Matter,
+        already: &[SheetEntry],
+        group: &[SheetEntry],
+        literal: usize,
+    ) -> bool {
+        let facts = matter.facts;
+        let in_group = |wanted: usize| group.iter().any(|e| usize::from(e.literal) == wanted);
+        let fails = |entry: &Entry| match (entry.default, self) {
+            (true, Misjudged::TakesTheGroupForNot) if in_group(entry.literal) => true,
+            (false, Misjudged::LeavesOutTheGroup) => says(already, entry.literal, false),
+            (false, _) if in_group(entry.literal) => true,
+            (default, _) => says(already, entry.literal, default),
+        };
+        let is_fact = match self {
+            Misjudged::LeavesOutFacts => false,
+            Misjudged::AsksForTheComplementAmongFacts => {
+                facts.contains(&literal) && !facts.contains(&complement(literal))
+            }
+            _ => facts.contains(&literal),
+        };
+        let asks = self != Misjudged::LeavesOutTheComplement;
+        let own = matter.rules.iter().filter(|rule| rule.head == literal);
+        let answered = Vec::from_iter(own.map(|rule| rule.body.iter().any(fails)));
+        let all = match self {
+            Misjudged::TakesOneAnsweredRule => answered.is_empty() || answered.contains(&true),
+            _ => !answered.contains(&false),
+        };
+        asks && says(already, complement(literal), true) || !is_fact && all
     }
 }
 
-/// Whether an entry is of a group with the number of an ended one.
-fn has_an_ended_number(sheet: &[SheetEntry], index: usize) -> bool {
+/// Whether some entries say of a literal that it is true, or that it is false.
+fn says(entries: &[SheetEntry], literal: usize, truth: bool) -> bool {
+    let claim = Claim { literal, truth };
+    entries.iter().any(|entry| entry.says(claim))
+}
+
+/// The entries that stand together with a "false" one under its number.
+fn group_around(sheet: &[SheetEntry], index: usize) -> Range<usize> {
     let own =
         |entry: &&SheetEntry| entry.kind == SheetEntry::FALSE && entry.group == sheet[index].group;
-    let before = sheet[..index].iter().rev();
-    own(&&sheet[index]) && before.skip_while(own).any(|entry| own(&entry))
-}
-
-/// The entries of the group around a "false" entry.
-fn group_of(sheet: &[SheetEntry], index: usize) -> impl Iterator<Item = &SheetEntry> {
-    let own = move |entry: &&SheetEntry| {
-        entry.kind == SheetEntry::FALSE && entry.group == sheet[index].group
-    };
     let before = sheet[..index].iter().rev().take_while(own);
-    before.chain(sheet[index..].iter().take_while(own))
-}
-
-/// Whether a "false" entry follows where all entries with its number are its group.
-fn joined_follows(matter: Matter, sheet: &[SheetEntry], index: usize) -> bool {
-    let own =
-        |entry: &SheetEntry| entry.kind == SheetEntry::FALSE && entry.group == sheet[index].group;
-    let first = sheet.iter().position(own).unwrap_or(index);
-    let group: Vec<SheetEntry> = sheet.iter().filter(|entry| own(entry)).copied().collect();
-    let place = sheet[..index].iter().filter(|entry| own(entry)).count();
-    let read = [&sheet[..first], &group].concat();
-    follows(matter, &read, first + place)
-}
-
-/// Gives the "false" entries numbers by runs: a number that no other run has.
-fn number_by_runs(sheet: &mut [SheetEntry], goes_on: impl Fn(&SheetEntry, &SheetEntry) -> bool) {
-    for (number, run) in sheet.chunk_by_mut(goes_on).enumerate() {
-        for entry in run.iter_mut().filter(|e| e.kind == SheetEntry::FALSE) {
-            entry.group = number as u16;
-        }
-    }
+    let behind = sheet[index..].iter().take_while(own);
+    index - before.count()..index + behind.count()
 }
 
 /// What is wrong in a maker.
@@ -426,33 +339,18 @@ impl Mismade {
     /// The sheet for a claim on a desk.
     pub fn make(self, desk: &Desk, claim: Claim, run: &mut [SheetEntry]) -> Result<usize, Refused> {
         let literals = desk.matter(claim.literal)?.literals;
-        let (bound, length) = (2 * literals, run.len());
-        let mut whole = vec![run.first().copied().unwrap_or(NOTHING); 4 * bound];
+        let bound = 2 * literals;
+        let mut whole = vec![NOTHING; 4 * bound];
         let due = desk.make_sheet(claim, &mut whole);
-        let truth = Claim {
-            truth: true,
-            ..claim
-        };
+        self.refuse(desk, claim, due.is_ok(), run.len())?;
         match self {
-            Mismade::LooksAtTheRunFirst if length < bound => return Err(Refused::BufferTooShort),
-            Mismade::AsksForOneEntryMore if due.is_ok() && length <= bound => {
-                return Err(Refused::BufferTooShort)
-            }
             Mismade::WritesThoughRefused => {
-                let fits = due.unwrap_or(length).min(length);
-                run[..fits].copy_from_slice(&vec![NOTHING; fits]);
+                let fits = due.unwrap_or(bound).min(run.len());
+                run[..fits].fill(NOTHING);
             }
             Mismade::MakesForWhatIsNotSo if due.is_err() => {
-                let other = Claim {
-                    truth: !claim.truth,
-                    ..claim
-                };
-                return desk.make_sheet(other, run);
-            }
-            Mismade::TakesTheTrueForNotFalse
-                if !claim.truth && desk.make_sheet(truth, &mut whole.clone()).is_ok() =>
-            {
-                return Err(Refused::NotShown)
+                let truth = !claim.truth;
+                return desk.make_sheet(Claim { truth, ..claim }, run);
             }
             Mismade::ForgetsFacts => return without_facts(desk).make_sheet(claim, run),
             _ => {}
@@ -469,6 +367,23 @@ impl Mismade {
             run[count..].fill(NOTHING);
         }
         Ok(count)
+    }
+
+    /// Refuses a claim about a literal of the book where that isn't due, where the claim is so or isn't.
+    fn refuse(self, desk: &Desk, claim: Claim, is_so: bool, length: usize) -> Result<(), Refused> {
+        let bound = 2 * desk.matter(claim.literal)?.literals;
+        let is_true = || {
+            desk.model()
+                .is_ok_and(|m| m.truths.contains(&claim.literal))
+        };
+        match self {
+            Mismade::LooksAtTheRunFirst if length < bound => Err(Refused::BufferTooShort),
+            Mismade::AsksForOneEntryMore if is_so && length <= bound => {
+                Err(Refused::BufferTooShort)
+            }
+            Mismade::TakesTheTrueForNotFalse if !claim.truth && is_true() => Err(Refused::NotShown),
+            _ => Ok(()),
+        }
     }
 
     /// Makes a sheet at the start of a run a wrong one, and answers its count.
