@@ -519,11 +519,11 @@ fn desks_that_are_wrong_about_previews_are_found() {
 /// What was looked at of proof sheets after so many lists, or a list that shows that something of them is wrong.
 fn random_sheets(how: How, lists: usize) -> Result<Sheets, String> {
     let mut sheets = Sheets::default();
-    for calls in lists_with_clashes(seed() + 11, lists) {
+    for (turn, calls) in lists_with_clashes(seed() + 11, lists).enumerate() {
         let amount = Amount {
             literals: 20,
             changed: 20,
-            seed: seed(),
+            seed: seed() + turn as u64,
         };
         sheets += sheets_agree(&calls, amount, || Wrong::fresh(how))?;
     }
@@ -543,13 +543,13 @@ fn desks_that_are_wrong_about_sheets_are_found() {
         (&[0, 20, 21, 26, 27, 28], &right.checked),
     ] {
         for number in numbers {
-            assert!(counts[number] > 100, "{number}: {right:?}");
+            assert!(counts[number] > 20, "{number}: {right:?}");
         }
     }
     let judges = Misjudged::ALL.map(|misjudged| (How::Judges(misjudged), "(check that "));
     let makes = Mismade::ALL.map(|mismade| (How::Makes(mismade), "(make a sheet that "));
     for (how, call) in judges.into_iter().chain(makes) {
-        let text = assert_found(how, random_lists(how, 4_000));
+        let text = assert_found(how, random_lists(how, 10_000));
         assert!(text.contains(call), "{how:?}: {text}");
         assert_found(how, random_sheets(how, 2_000));
         assert!(random_models(how, 20).is_ok(), "{how:?}");

@@ -149,8 +149,9 @@ fn rule_number(random: &mut Random, rules: usize, literal: u16) -> u16 {
     let fact = (MOST_RULES as u16).wrapping_add(literal);
     match random.below(8) {
         0..=2 => fact,
-        3 => random.pick(&[
-            fact ^ 1,
+        // Of other literals.
+        3 => random.pick(&[fact ^ 1, fact.wrapping_add(2), fact.wrapping_sub(2)]),
+        4 => random.pick(&[
             fact.wrapping_add(256),
             rules as u16,
             rules as u16 + 1,
