@@ -35,8 +35,6 @@ pub enum Misjudged {
     TakesTheGroupForNot,
     /// A fact put in is no rule of a "false" entry.
     LeavesOutFacts,
-    /// Where both literals of a name are put in, they are no rules of "false" entries, whatever is already true.
-    AsksForTheComplementAmongFacts,
     /// The complement of the head isn't asked.
     LeavesOutTheComplement,
     /// One rule of a literal with an answer is enough.
@@ -68,7 +66,7 @@ pub enum Misjudged {
 }
 
 impl Misjudged {
-    pub const ALL: [Misjudged; 29] = [
+    pub const ALL: [Misjudged; 28] = [
         Misjudged::AcceptsWhatIsNotAmongTheEntries,
         Misjudged::TakesEitherKindForTheClaim,
         Misjudged::LooksForTheClaimFirst,
@@ -83,7 +81,6 @@ impl Misjudged {
         Misjudged::JudgesAGroupOneByOne,
         Misjudged::TakesTheGroupForNot,
         Misjudged::LeavesOutFacts,
-        Misjudged::AsksForTheComplementAmongFacts,
         Misjudged::LeavesOutTheComplement,
         Misjudged::TakesOneAnsweredRule,
         Misjudged::TakesARuleOfAnotherHead,
@@ -247,7 +244,6 @@ impl Misjudged {
         group: &[SheetEntry],
         literal: usize,
     ) -> bool {
-        let facts = matter.facts;
         let in_group = |wanted: usize| group.iter().any(|e| usize::from(e.literal) == wanted);
         let fails = |entry: &Entry| match (entry.default, self) {
             (true, Misjudged::TakesTheGroupForNot) if in_group(entry.literal) => true,
@@ -257,10 +253,7 @@ impl Misjudged {
         };
         let is_fact = match self {
             Misjudged::LeavesOutFacts => false,
-            Misjudged::AsksForTheComplementAmongFacts => {
-                facts.contains(&literal) && !facts.contains(&complement(literal))
-            }
-            _ => facts.contains(&literal),
+            _ => matter.facts.contains(&literal),
         };
         let asks = self != Misjudged::LeavesOutTheComplement;
         let own = matter.rules.iter().filter(|rule| rule.head == literal);
