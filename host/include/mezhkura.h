@@ -39,13 +39,13 @@
  * mezhkura_check_sheet says whether a proof sheet shows a claim: that a literal is true, which is to lie in M, or that it is
  * false, which is to lie outside N. No matter who wrote the sheet, what is accepted is so. A sheet is a run of entries. A
  * "true" entry names a rule of its literal whose positive body literals are earlier "true" entries and whose "not" literals
- * are earlier "false" ones, or the literal put in as a fact. "False" entries that stand side by side with one group number
- * are a group, which no other group's number may be, and the group is judged whole: each rule of each literal in it, a fact
- * put in too, has its head's complement true before the group, or a body literal "not C" with C true before it, or a positive
- * body literal that is false before it or in the group. The numbers, in their order: 20 and 21 for the claim; 26 for no
- * entries or more than 512; 27 with the index of the first entry that does not follow, which is an entry of another kind,
- * with a literal that the book does not have or with the number of a group that has ended, a "true" one that names no such
- * rule, or in a group the first with a rule left open; 28 where the claim is not among the entries.
+ * are earlier "false" ones, or it names the literal put in as a fact. "False" entries side by side with one group number are
+ * a group. No other group may have that number, and a group is judged whole: each rule of each literal in it, a fact put in
+ * too, has its head's complement true before the group, or a body literal "not C" with C true before it, or a positive body
+ * literal that is false before it or in the group. The numbers, in their order: 20 and 21 for the claim; 26 for no entries or
+ * more than 512; 27 with the index of the first entry that does not follow; 28 where the claim is not among the entries. An
+ * entry does not follow if it is of another kind, if the book does not have its literal (which stays in its group), if its
+ * group has the number of an earlier one, if it is "true" and names no such rule, or if it is "false" with a rule left open.
  *
  * mezhkura_make_sheet writes a sheet for a claim, which the check accepts, to the first places of a lent run, and gives the
  * count of its entries, at most two per literal. The entries after them stay. The numbers, in their order: 20; 21; 28 where
