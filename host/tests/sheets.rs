@@ -530,7 +530,7 @@ mod engine {
         }
         lists.extend((0..10).map(|_| gen::calls(&mut random, FULL)));
         let sheets = compare("large books", lists, 16, 10);
-        assert!(sheets.longest > 10 && sheets.made[&0] > 500, "{sheets:?}");
+        assert!(sheets.made[&0] > 500, "{sheets:?}");
         let slow = load_with(&gen::slow_book(), &[]);
         compare("the slow book", vec![slow], 2, 2);
     }
