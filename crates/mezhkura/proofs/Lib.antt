@@ -3,3 +3,4 @@ pub mod Runs
 pub mod Copied
 pub mod Values
 pub mod Called
+pub mod Tables

@@ -506,7 +506,8 @@ pub extern "C" fn mezhkura_check_sheet(
     let mut sheet = sheet::blank();
     let mut i: usize = 0;
     while i < n {
-        sheet = sheet::with_entry(sheet, i, entries[i]);
+        // The table is lent: a sheet by value would be copied in each turn.
+        sheet::put_entry(&mut sheet.fields, i, entries[i]);
         i += 1;
     }
     checked(desk, literal, truth, entries.len(), sheet)
@@ -525,7 +526,8 @@ pub extern "C" fn mezhkura_make_sheet(
     let made = make(desk, literal, truth, entries.len());
     let mut i: usize = 0;
     while i < made.count {
-        entries[i] = sheet::entry_in(made.sheet, i);
+        // The table is lent here too.
+        entries[i] = sheet::entry_at(&made.sheet.fields, i);
         i += 1;
     }
     MakeReply {

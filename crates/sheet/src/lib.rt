@@ -91,22 +91,6 @@ pub fn put_entry(fields: &mut [u16], i: usize, e: SheetEntry)
     store::put16(fields, p + 3, e.group);
 }
 
-// Entry i of a sheet.
-pub fn entry_in(s: Sheet, i: usize) -> SheetEntry
-    ensures { λ r. ⌜ r ≡ entryIn (s .fields) i ⌝ }
-{
-    entry_at(&s.fields, i)
-}
-
-// A sheet with this as entry i.
-pub fn with_entry(s: Sheet, i: usize, e: SheetEntry) -> Sheet
-    ensures { λ r. ⌜ r .fields ≡ withEntry (s .fields) i e ⌝ }
-{
-    let mut fields = s.fields;
-    put_entry(&mut fields, i, e);
-    Sheet { fields }
-}
-
 // ---- the check
 
 // Whether the sheet is accepted for the claim, and the number it is refused by otherwise; the index is that of 27.
