@@ -45,6 +45,12 @@ module _ {X : Type 0} (f : ℕ → X) (k n : ℕ) where
       let none : n - k ≡ 0 = omega arith in
       rw none
 
+-- values that are the same as far as they go
+pub rows-same : {X : Type 0} (f g : ℕ → X) (k n : ℕ) → ((j : ℕ) → j < k + n → f j ≡ g j) → rows f k n ≡ rows g k n
+unfolding rows
+rows-same f g k zero h = refl
+rows-same f g k (suc n) h = rw (h k (omega arith), rows-same f g (suc k) n (λ j l. h j (omega arith))) refl
+
 -- one row more at the end
 pub rows-last : {X : Type 0} (f : ℕ → X) (k n : ℕ) → rows f k (n + 1) ≡ rows f k n ++ (f (k + n) ∷ [])
 unfolding rows

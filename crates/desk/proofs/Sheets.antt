@@ -4,20 +4,19 @@ use mathlib.Core.Path.{_≡_, refl, sym, _∙_, ap, subst}
 use mathlib.Core.Bool.{Bool, true≢false}
 use mathlib.Core.List.{List}
 use mathlib.Core.Logic.{inl, inr}
-use Prim.Native.Nat.{ℕ, _*_, _≤_, _<_}
+use Prim.Native.Nat.{ℕ, _*_, _≤_}
 use native.Mathlib.Omega.{arith}
 use lib.ListN.{length, take, drop}
-use borrow.Author.Tests.{ltb-true}
 use Rattle.wfsx.specs.Sets.{_∈_}
 use Rattle.sheet.specs.Sheet.{accepted, IsSo}
 use Rattle.sheet.specs.declared.SheetEntry.{SheetEntry}
 use Rattle.sheet.specs.declared.Judgement.{Judgement}
 use Rattle.reader.specs.Conditions.{First}
-use Rattle.lesson.specs.State.{BookState, State, programIn, noneLoaded, inBook, Said, gives, refused, knownIn, checkSays}
+use Rattle.lesson.specs.State.{State, programIn, noneLoaded, inBook, Said, gives, refused, knownIn, checkSays}
 use Rattle.lesson.specs.Calls.{Checks, makeSaid, Makes}
 use Rattle.lesson.specs.Conditions.{makeRows}
 use Rattle.lesson.specs.declared.MakeAnswer.{MakeAnswer}
-use Rattle.lesson.proofs.Order.{some-book}
+use Rattle.lesson.proofs.Order.{some-book, literal-below}
 use Rattle.lesson.proofs.Sound.{book-in-room}
 use Rattle.lesson.proofs.Sheets.{check-sound, make-by, make-wrote}
 use Rattle.desk.specs.Calls.{stateOf, Fresh}
@@ -25,10 +24,6 @@ use Rattle.desk.specs.Runs.{Call, left, Run, CheckDue, MakeDue}
 use Rattle.desk.specs.declared.Desk.{Desk}
 use Rattle.desk.proofs.Left.{left-means, left-good}
 use Rattle.desk.proofs.Exists.{left-sound}
-
-literal-below : (b : BookState) (A : ℕ) → A ∈ inBook b → A < knownIn b
-unfolding inBook
-literal-below b A i = ltb-true A (knownIn b) i
 
 module _ (cs : List Call) (start k : Desk) (f : Fresh start) (run : Run start cs k) (A : ℕ) (truth : Bool) where
   means : stateOf k ≡ left cs

@@ -7,7 +7,7 @@ use lib.ListN.{length}
 use borrow.Author.Tests.{eq-eqb, ne-eqb, ltb-true}
 use Rattle.wfsx.specs.Sets.{_∈_}
 use Rattle.wfsx.specs.Reach.{nameOf}
-use Rattle.lesson.specs.State.{Ack, acknowledged, BookState, unloaded, loaded-with, itsNames, noneLoaded, inBook, Said, gives, refused, ifLoaded, inOrder}
+use Rattle.lesson.specs.State.{Ack, acknowledged, BookState, unloaded, loaded-with, itsNames, noneLoaded, inBook, Said, gives, refused, ifLoaded, inOrder, knownIn}
 use Rattle.lesson.specs.Calls.{numberSays}
 
 abbrev isGiven : {X : Type 0} → Said X → Bool
@@ -66,7 +66,12 @@ unfolding inBook
 some-book unloaded A i = let h = ltb-true A 0 i in absurd (omega arith)
 some-book (loaded-with names rules) A i = refl
 
--- a literal of a book is of one of its names
+-- a literal of a book is below twice the count of its names
+pub literal-below : (b : BookState) (A : ℕ) → A ∈ inBook b → A < knownIn b
+unfolding inBook
+literal-below b A i = ltb-true A (knownIn b) i
+
+-- and is of one of its names
 pub name-inside : (b : BookState) (A : ℕ) → A ∈ inBook b → nameOf A < length (itsNames b)
 unfolding inBook
 name-inside b A i = let h = ltb-true A (2 * length (itsNames b)) i in omega arith

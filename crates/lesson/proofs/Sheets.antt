@@ -1,9 +1,9 @@
 -- The calls about proof sheets: what they reply once the tests have picked an arm, when they are turned down, and what an accepted sheet tells. A sheet is judged
 -- over the lesson's own rules and facts, so an accepted claim is so in every lesson, whoever wrote the sheet.
 use mathlib.Core.Path.{_≡_, refl, sym, _∙_, ap, ap₂}
-use mathlib.Core.Bool.{Bool, true, false, cond, _&&_, true≢false}
+use mathlib.Core.Bool.{Bool, true, false, cond, _&&_}
 use mathlib.Core.List.{List, [], _∷_, _++_, List·Memᴰ·not-nil}
-use mathlib.Core.Logic.{_↔_, _⊎_, inl, inr, ⊎-elim}
+use mathlib.Core.Logic.{_⊎_, inl, inr}
 use Prim.Native.Nat.{ℕ, _*_, _≤_, _<_}
 use native.Mathlib.Omega.{arith}
 use lib.Dec.{eqb, ltb, leb}
@@ -25,7 +25,7 @@ use Rattle.sheet.specs.declared.Sheet.{Sheet}
 use Rattle.sheet.specs.declared.Judgement as declared
 use Rattle.sheet.specs.declared.Judgement.the-variants.{Accepted, Refused}
 use Rattle.sheet.proofs.Sound.{accepted-sound}
-use Rattle.maker.specs.Making.{MadeFor}
+use Rattle.maker.specs.Result.{MadeFor}
 use Rattle.maker.specs.declared.Made.{Made}
 use Rattle.maker.proofs.Rounds.{rules-small}
 use Rattle.maker.proofs.Exists.{made-exists}

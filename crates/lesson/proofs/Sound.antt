@@ -22,11 +22,11 @@ use Rattle.litset.specs.Words.{room, capacity}
 use Rattle.litset.proofs.Words.{without-at}
 use Rattle.book.specs.Limits.{maxNames}
 use Rattle.book.specs.Book.{literalIn}
-use Rattle.maker.specs.Making.{Within}
+use Rattle.maker.specs.Result.{Within}
 use Rattle.lesson.specs.State.{unloaded, loaded-with, State, emptied, itsNames, itsRules, inForce, programIn, inBook, ContradictoryOver, Said, gives, refused, Ack, itsLiteral, changeSays, changedSet, changed, unlessRefused, stateAfter, knownIn}
 use Rattle.lesson.specs.declared.Change.{Change}
 use Rattle.lesson.specs.declared.Change.the-variants.{PutIn, TakeOut}
-use Rattle.lesson.proofs.Order.{given-inside}
+use Rattle.lesson.proofs.Order.{given-inside, literal-below}
 
 pub record Sound (d : State) : Type 0 where
   pub few-names : length (itsNames (d .book)) ≤ maxNames
@@ -105,17 +105,14 @@ module _ (d : State) (s : Sound d) where
 
   -- all its literals are literals of the book
   pub literals-within : Within (knownIn (d .book)) (programIn d)
-  unfolding inBook programIn
+  unfolding programIn
   literals-within =
       record {
-        heads-below = λ r m. below (r .head) (heads-in-book r m);
-        positive-below = λ r m B i. below B (in-body r m (positive B) i);
-        default-below = λ r m C i. below C (in-body r m (default C) i);
+        heads-below = λ r m. literal-below (d .book) (r .head) (heads-in-book r m);
+        positive-below = λ r m B i. literal-below (d .book) B (in-body r m (positive B) i);
+        default-below = λ r m C i. literal-below (d .book) C (in-body r m (default C) i);
       }
     where
-      below : (A : ℕ) → A ∈ inBook (d .book) → A < knownIn (d .book)
-      below A i = ltb-true A (knownIn (d .book)) i
-
       in-body : (r : Rule) → r isIn programIn d → (e : Entry) → e isIn r .body → literalIn e ∈ inBook (d .book)
       in-body r m e i = ⊎-elim (λ q. s .bodies-known r q e i) of-fact (List·Memᴰ·append-cases (itsRules (d .book)) m)
         where

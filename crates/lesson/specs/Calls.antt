@@ -19,7 +19,7 @@ use Rattle.lister.specs.declared.Marks.{Marks}
 use Rattle.sheet.specs.Answers.{judgementOf}
 use Rattle.sheet.specs.declared.SheetEntry.{SheetEntry}
 use Rattle.sheet.specs.declared.Judgement.{Judgement}
-use Rattle.maker.specs.Making.{MadeFor}
+use Rattle.maker.specs.Result.{MadeFor}
 use Rattle.maker.specs.declared.Made.{Made}
 use Rattle.lesson.specs.State.{BookState, unloaded, loaded-with, Own, State, itsNames, itsRules, inForce, programIn, Said, gives, refused, Ack, acknowledged, changeSays, changed, searchSays, contradictoryBelow, verdictSays, modelSays, whereLoaded, ifLoaded, inOrder, orderIn, listingFrom, listingSays, bufferAfter, knownIn, checkSays, makeSays, entriesAfter}
 use Rattle.lesson.specs.declared.Shelf.{Shelf}

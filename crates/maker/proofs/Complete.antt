@@ -1,53 +1,41 @@
 -- Which groups follow, and why a sheet to which nothing can be added has all of M and all that lies outside N. Literals that are not known may count as
 -- facts in Γs: then a group follows whatever the rules are, and where all literals are known it makes no difference.
-use mathlib.Core.Path.{_≡_, refl, sym, _∙_, ap}
-use mathlib.Core.Logic.{_⊎_, inl, inr, ⊎-elim}
-use mathlib.Core.Bool.{Bool, true, false, not, _&&_, _||_}
+use mathlib.Core.Path.{_≡_, refl, sym, _∙_}
+use mathlib.Core.Logic.{_⊎_, ⊎-elim}
+use mathlib.Core.Bool.{true, not, _||_}
 use mathlib.Core.List.{List, [], _∷_, List·Memᴰ·head, List·Memᴰ·tail}
 use Prim.Native.Nat.{ℕ, _<_}
-use lib.Dec.{eqb}
-use borrow.Author.Tests.{eqb-true, not-true}
-use Rattle.truth.proofs.Truth.{clash, decided, contra, not-intro, and-l, and-r, and-intro, or-elim, or-l, or-r, neither}
-use Rattle.wfsx.specs.Sets.{Set, _∈_, _∉_, _⊆_, _isIn_}
+use borrow.Author.Tests.{not-true}
+use Rattle.truth.proofs.Truth.{clash, decided, refuted, contra, not-intro, and-l, and-r, and-intro}
+use Rattle.wfsx.specs.Sets.{Set, _∈_, _∉_, _⊆_, _∪_, _isIn_}
 use Rattle.wfsx.specs.Program.{compl, Entry, positive, default, Rule, Program, seminormal}
 use Rattle.wfsx.specs.Model.{holds, every, supported, Γ, Γs, M, N}
-use Rattle.wfsx.proofs.Supported.{every-intro, every-elim, supported-intro, supported-elim}
+use Rattle.wfsx.proofs.Supported.{supported-seminormal, every-intro, every-elim, supported-intro, supported-elim}
 use Rattle.wfsx.proofs.Operators.{derived-seminormal, Γ-ind, Γ-inside, Γs-is, Γs-has, Γs-antitone, M-least, N-is}
-use Rattle.sheet.specs.Sheet.{shown, answers, some, answered, everyRule}
-use Rattle.maker.specs.Making.{Within}
-
-everyRule-intro : (f : Rule → Bool) (P : Program) (A : ℕ) → ((r : Rule) → r isIn P → r .head ≡ A → f r ≡ true) → everyRule f P A ≡ true
-unfolding everyRule
-everyRule-intro f [] A h = refl
-everyRule-intro f (r ∷ P) A h =
-    and-intro (not (eqb (r .head) A) || f r) _ (first (decided (eqb (r .head) A))) (everyRule-intro f P A (λ q m. h q (List·Memᴰ·tail m)))
-  where
-    first : (eqb (r .head) A ≡ true) ⊎ (eqb (r .head) A ≡ false) → (not (eqb (r .head) A) || f r) ≡ true
-    first (inl e) = or-r (not (eqb (r .head) A)) (f r) (h r (List·Memᴰ·head refl) (eqb-true (r .head) A e))
-    first (inr e) = or-l (not (eqb (r .head) A)) (f r) (not-intro e)
+use Rattle.sheet.specs.Sheet.{shown, answered, everyRule}
+use Rattle.sheet.specs.Turns.{beyond, openIn}
+use Rattle.sheet.proofs.Open.{not-open}
+use Rattle.maker.specs.Result.{Within}
 
 -- ---- a group follows where it has, with the literals already false, each positive body literal outside Γs(T). Q has the rules of P and perhaps others.
 
 module _ (P Q : Program) (inside : (r : Rule) → r isIn P → r isIn Q) (T F G : Set)
     (covers : (r : Rule) → r isIn P → (B : ℕ) → positive B isIn r .body → B ∉ Γs Q T → F B || G B ≡ true) where
-  -- a body that nothing answers holds over Γs(T)
-  body-holds : (es : List Entry) → ((B : ℕ) → positive B isIn es → B ∉ Γs Q T → F B || G B ≡ true) → some (answers T F G) es ≡ false → every (holds (Γs Q T) T) es ≡ true
-  unfolding some every
-  body-holds [] k h = refl
-  body-holds (positive B ∷ es) k h =
-      let w = neither (F B || G B) _ h in
-      and-intro (Γs Q T B) _ (⊎-elim (λ y. y) (λ y. absurd (clash (k B (List·Memᴰ·head refl) y) (w .0))) (decided (Γs Q T B)))
-      (body-holds es (λ C m. k C (List·Memᴰ·tail m)) (w .1))
-  body-holds (default C ∷ es) k h =
-      let w = neither (T C) _ h in and-intro (not (T C)) _ (not-intro (w .0)) (body-holds es (λ B m. k B (List·Memᴰ·tail m)) (w .1))
-
   pub group-follows : (A : ℕ) → A ∉ Γs Q T → everyRule (answered T F G) P A ≡ true
-  group-follows A a = everyRule-intro (answered T F G) P A (λ r m e. ⊎-elim (λ y. y) (λ o. absurd (clash (left-open r m e o) a)) (decided (answered T F G r)))
+  group-follows A a = not-open T F G P A ∙ not-intro (refuted (λ o. clash (derived o) a))
     where
-      left-open : (r : Rule) → r isIn P → r .head ≡ A → answered T F G r ≡ false → A ∈ Γs Q T
-      left-open r m e o =
-          let w = neither (T (compl (r .head))) _ o in
-          rw e at (Γs-has Q T (r .head) (w .0) (supported-intro Q (holds (Γs Q T) T) r (inside r m) (body-holds (r .body) (covers r m) (w .1))))
+      -- an entry that holds over what is outside F and G holds over Γs(T)
+      in-Γs : (r : Rule) → r isIn P → (e : Entry) → e isIn r .body → holds (beyond (F ∪ G)) T e ≡ true → holds (Γs Q T) T e ≡ true
+      in-Γs r m (positive B) i h = ⊎-elim (λ y. y) (λ y. absurd (clash (covers r m B i y) (not-true (F B || G B) h))) (decided (Γs Q T B))
+      in-Γs r m (default C) i h = h
+
+      -- so a literal with a rule left open is in Γs(T)
+      derived : A ∈ openIn P T (F ∪ G) → A ∈ Γs Q T
+      derived o =
+          let w = sym (supported-seminormal P (holds (beyond (F ∪ G)) T) A) ∙ o in
+          let r = supported-elim P (holds (beyond (F ∪ G)) T) A (and-r (not (T (compl A))) _ w) in
+          Γs-has Q T A (not-true (T (compl A)) (and-l (not (T (compl A))) _ w))
+          (rw (r .2) at (supported-intro Q (holds (Γs Q T) T) (r .0) (inside (r .0) (r .1)) (every-intro (holds (Γs Q T) T) (r .0 .body) (λ e i. in-Γs (r .0) (r .1) e i (every-elim (holds (beyond (F ∪ G)) T) (r .0 .body) (r .3) e i)))))
 
 -- ---- rules for unknown literals derive no known literal
 

@@ -1,13 +1,13 @@
 -- Something can be made for every claim: rounds end, since each but the last adds an entry, and what they lead to stands in some table.
-use mathlib.Core.Path.{_≡_, refl, sym, _∙_, ap, ap₂}
-use mathlib.Core.Logic.{_⊎_, inl, inr, ⊎-elim}
+use mathlib.Core.Path.{_≡_, refl, sym, _∙_, ap}
+use mathlib.Core.Logic.{_⊎_, inl, inr}
 use mathlib.Core.Bool.{Bool, true, false, cond}
 use mathlib.Core.List.{List, [], _∷_, _++_, map, append-assoc, append-nil}
 use Prim.Native.Nat.{ℕ, zero, suc, _+_, _*_, _≤_, _<_}
 use native.Mathlib.Omega.{arith}
 use lib.ListN.{length, length-append, length-replicate}
 use Rattle.truth.proofs.Truth.{decided}
-use Rattle.wfsx.specs.Sets.{Set, ∅, _∈_, _∉_, _∪_, _∖_, _isIn_, members}
+use Rattle.wfsx.specs.Sets.{Set, _∈_, _∉_, _∪_, _∖_, _isIn_, members}
 use Rattle.wfsx.specs.Program.{Rule, positive}
 use Rattle.wfsx.specs.Model.{Γs}
 use Rattle.litset.specs.Words.{capacity}
@@ -19,9 +19,10 @@ use Rattle.sheet.specs.Flat.{entryIn, entriesIn, withEntry, blank}
 use Rattle.sheet.specs.declared.SheetEntry.{SheetEntry}
 use Rattle.sheet.specs.declared.Sheet.{Sheet}
 use Rattle.sheet.proofs.Stored.{stored-length, entries-more}
-use Rattle.maker.specs.Making.{MadeFor, fromOn, memberEntry, passed, withLiterals, none-yet, one-more}
+use Rattle.maker.specs.Result.{MadeFor}
+use Rattle.maker.specs.Making.{fromOn, memberEntry, passed, none-yet, one-more}
 use Rattle.maker.specs.declared.Made.{Made}
-use Rattle.maker.proofs.Rounds.{possible, Making, making-start, with-group, group-covers, with-passes, making-few, made-found, made-none}
+use Rattle.maker.proofs.Rounds.{Making, making-start, with-group, group-covers, with-passes, making-few, made-found, made-none}
 
 -- ---- a table for some entries
 

@@ -1,5 +1,4 @@
 -- Why the maker's sheets are accepted, and why it finds one for every claim that is so.
-pub mod Counted
 pub mod Stands
 pub mod Complete
 pub mod Passed

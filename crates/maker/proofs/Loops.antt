@@ -1,10 +1,10 @@
 -- The loops of the maker: each has come to some place, and what is written behind the entries that were there is what its definition says so far.
 use mathlib.Core.Path.{_≡_, refl, sym, _∙_, ap, ap₂, fun-ext}
 use mathlib.Core.Logic.{⊎-elim}
-use mathlib.Core.Bool.{Bool, true, false, cond, not, _&&_, _||_}
+use mathlib.Core.Bool.{Bool, true, false, _&&_}
 use mathlib.Core.List.{List, [], _∷_, _++_, map, map-append, append-assoc, append-nil}
-use Prim.Native.Nat.{ℕ, zero, suc, _+_, _-_, _*_, _≤_, _<_}
-use native.Mathlib.Decide.{ℕ-discrete, decLt}
+use Prim.Native.Nat.{ℕ, _+_, _-_, _*_, _≤_, _<_}
+use native.Mathlib.Decide.{ℕ-discrete}
 use native.Mathlib.Numerals.{add-one}
 use native.Mathlib.Omega.{arith}
 use lib.Dec.{eqb, ltb, leb}
@@ -13,7 +13,6 @@ use borrow.Author.Tests.{eq-eqb, ne-eqb, lt-ltb, le-ltb, le-leb, leb-true, ltb-t
 use Rattle.truth.proofs.Truth.{and-l, and-r, and-intro, same-test, or-elim, or-l, or-r, refuted}
 use Rattle.wfsx.specs.Sets.{Set, ∅, _∈_, _∉_, add, members}
 use Rattle.wfsx.specs.Program.{Rule}
-use Rattle.wfsx.proofs.Members.{members-none, length-parts}
 use Rattle.litset.specs.Words.{capacity, with}
 use Rattle.litset.proofs.Words.{with-room}
 use Rattle.book.specs.Book.{rows, headAt, bodyOf, ruleAt, rulesIn}
@@ -25,7 +24,7 @@ use Rattle.sheet.specs.Flat.{entriesIn, withEntry}
 use Rattle.sheet.proofs.Stored.{stored-length, entries-more}
 use Rattle.sheet.specs.declared.SheetEntry.{SheetEntry}
 use Rattle.maker.specs.Making.{fromOn, memberEntry, ruleEntry, adds, passed, withLiterals}
-use Rattle.maker.proofs.Counted.{members-last}
+use Rattle.wfsx.proofs.Members.{members-none, length-parts, members-last}
 
 -- ---- the literals from k on
 

@@ -1,13 +1,13 @@
 -- A pass over the rules: its entries follow one after the other; each adds a literal; and where it writes none, no rule of a known literal is left to add.
 use mathlib.Core.Path.{_≡_, refl, sym, _∙_, ap, subst}
 use mathlib.Core.Logic.{_⊎_, inl, inr, ⊎-elim}
-use mathlib.Core.Bool.{Bool, true, false, not, cond, _&&_, _||_}
+use mathlib.Core.Bool.{Bool, true, false, not, _&&_}
 use mathlib.Core.List.{List, [], _∷_, _++_, append-assoc, append-nil, List·Memᴰ·head, List·Memᴰ·tail, List·Memᴰ·not-nil}
-use Prim.Native.Nat.{ℕ, zero, suc, _+_, _≤_, _<_}
+use Prim.Native.Nat.{ℕ, suc, _+_, _≤_, _<_}
 use native.Mathlib.Omega.{arith}
 use lib.Dec.{eqb, ltb}
 use lib.ListN.{length, length-append}
-use borrow.Author.Tests.{eq-eqb, eqb-true, not-true, lt-ltb, ltb-true}
+use borrow.Author.Tests.{eq-eqb, not-true, lt-ltb, ltb-true}
 use Rattle.truth.proofs.Truth.{clash, decided, and-l, and-r, and-intro, or-l, not-intro}
 use Rattle.wfsx.specs.Sets.{Set, _∈_, _∉_, _⊆_, add, _isIn_}
 use Rattle.wfsx.specs.Program.{Rule}
@@ -16,7 +16,7 @@ use Rattle.wfsx.proofs.Sets.{⊆-add}
 use Rattle.sheet.specs.Sheet.{shown, ruleNumbered, namesRule, trueFollows}
 use Rattle.sheet.specs.declared.SheetEntry.{SheetEntry}
 use Rattle.maker.specs.Making.{adds, ruleEntry, passed, withLiterals}
-use Rattle.maker.proofs.Counted.{sizeBelow, size-add}
+use Rattle.wfsx.proofs.Members.{sizeBelow, size-add}
 use Rattle.maker.proofs.Stands.{Stands, stands-true}
 
 pub with-grows : (es : List SheetEntry) (T : Set) → T ⊆ withLiterals es T

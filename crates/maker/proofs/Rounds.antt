@@ -4,18 +4,17 @@ use mathlib.Core.Path.{_≡_, refl, sym, _∙_, ap, ap₂, subst, fun-ext}
 use mathlib.Core.Logic.{_⊎_, inl, inr, ⊎-elim}
 use mathlib.Core.Bool.{Bool, true, false, not, cond, _&&_, _||_}
 use mathlib.Core.List.{List, [], _∷_, _++_, map, append-assoc, append-nil, List·Memᴰ·head, List·Memᴰ·tail, List·Memᴰ·not-nil, List·Memᴰ·append-cases, Memᴰ·append-left, Memᴰ·append-right, Memᴰ·map, Memᴰ·of-map}
-use Prim.Native.Nat.{ℕ, zero, suc, _+_, _-_, _*_, _%_, _≤_, _<_}
+use Prim.Native.Nat.{ℕ, suc, _+_, _-_, _*_, _%_, _≤_, _<_}
 use native.Mathlib.Decide.{decLt, ℕ-discrete}
 use native.Mathlib.Omega.{arith}
 use lib.Dec.{eqb, ltb, leb}
 use lib.ListN.{length, length-append, length-map}
-use borrow.Author.Tests.{eq-eqb, eqb-true, lt-ltb, le-leb, ltb-true, leb-true, not-true, le-ltb}
+use borrow.Author.Tests.{eq-eqb, eqb-true, lt-ltb, le-leb, ltb-true, leb-true, not-true}
 use Rattle.truth.proofs.Truth.{clash, decided, refuted, same-test, and-l, and-r, and-intro, not-intro, contra, or-elim, or-l, or-r}
 use Rattle.wfsx.specs.Sets.{Set, ∅, _∈_, _∉_, _⊆_, _∪_, _∖_, add, _isIn_, members}
-use Rattle.wfsx.specs.Program.{compl, Entry, positive, default, Rule, Program, fact}
-use Rattle.wfsx.specs.Model.{holds, every, supported, Γs, M, N}
+use Rattle.wfsx.specs.Program.{compl, positive, Rule, Program, fact}
+use Rattle.wfsx.specs.Model.{holds, every, supported, Γs}
 use Rattle.wfsx.proofs.Program.{compl-plain, compl-negated}
-use Rattle.wfsx.proofs.Members.{members-are, length-most}
 use Rattle.wfsx.proofs.Facts.{supported-facts}
 use Rattle.wfsx.proofs.Operators.{Γs-has}
 use Rattle.wfsx.proofs.Supported.{supported-elim}
@@ -25,11 +24,12 @@ use Rattle.book.specs.Book.{rows, clamp, literalIn, entryOf, bodyAt, ruleAt, ru
 use Rattle.book.specs.declared.Book.{Book}
 use Rattle.book.proofs.Heads.{entry-below, program-of}
 use Rattle.book.proofs.Rows.{rows-none, rows-length, rows-map}
-use Rattle.sheet.specs.Sheet.{maxSheet, shown, listed, trueFollows, falseFollows, namesRule, factNumber, everyRule, answered, among, kindOf, judgement, judgedBy, accepted, ruleNumbered, IsSo}
+use Rattle.sheet.specs.Sheet.{maxSheet, shown, listed, trueFollows, falseFollows, namesRule, factNumber, among, kindOf, judgement, judgedBy, accepted, ruleNumbered, IsSo}
 use Rattle.sheet.specs.Flat.{entryIn, entriesIn}
 use Rattle.sheet.specs.declared.SheetEntry.{SheetEntry}
-use Rattle.maker.specs.Making.{Within, MadeFor, fromOn, memberEntry, adds, ruleEntry, passed, withLiterals, Passes, none-yet, one-more}
-use Rattle.maker.proofs.Counted.{sizeBelow, size-apart, members-same}
+use Rattle.maker.specs.Result.{Within, MadeFor}
+use Rattle.maker.specs.Making.{fromOn, memberEntry, adds, passed, withLiterals, Passes, none-yet, one-more}
+use Rattle.wfsx.proofs.Members.{members-are, length-most, members-same, sizeBelow, size-apart}
 use Rattle.maker.proofs.Stands.{Stands, stands-none, stands-true, stands-group, stands-follows}
 use Rattle.maker.proofs.Complete.{group-follows, known-only, all-true, all-false}
 use Rattle.maker.proofs.Passed.{with-grows, stands-passed, passed-most, passed-none}

@@ -2,17 +2,17 @@
 -- other, each judged over the blocks before.
 use mathlib.Core.Path.{_≡_, refl, sym, _∙_, ap, ap₂, subst, fun-ext}
 use mathlib.Core.Logic.{_⊎_, inl, inr, ⊎-elim}
-use mathlib.Core.Bool.{Bool, true, false, not, cond, _&&_, _||_}
+use mathlib.Core.Bool.{Bool, true, false, cond, _&&_, _||_}
 use mathlib.Core.List.{List, [], _∷_, _++_, map, append-assoc, append-nil}
-use Prim.Native.Nat.{ℕ, zero, suc, _+_, _≤_, _<_}
+use Prim.Native.Nat.{ℕ, suc, _+_, _<_}
 use native.Mathlib.Omega.{arith}
-use lib.Dec.{eqb, ltb}
+use lib.Dec.{eqb}
 use lib.ListN.{length, length-append, length-map}
 use borrow.Author.Tests.{eq-eqb, eqb-true, ne-eqb}
-use Rattle.truth.proofs.Truth.{clash, decided, refuted, and-l, and-r, or-elim, or-l, or-r}
+use Rattle.truth.proofs.Truth.{clash, decided, refuted, and-l, or-elim, or-l, or-r}
 use Rattle.wfsx.specs.Sets.{Set, ∅, _∈_, _∉_, _∪_, add}
 use Rattle.wfsx.specs.Program.{Rule}
-use Rattle.sheet.specs.Sheet.{Block, single, group, joined, blocks, listed, Fault, none, at, firstFailing, trueFollows, falseFollows, faultIn, fault, among}
+use Rattle.sheet.specs.Sheet.{Block, single, group, joined, blocks, listed, Fault, none, firstFailing, trueFollows, falseFollows, faultIn, fault, among}
 use Rattle.sheet.specs.declared.SheetEntry.{SheetEntry}
 use Rattle.maker.specs.Making.{memberEntry}
 
@@ -75,11 +75,11 @@ among-falses g A (B ∷ As) m = go (eqb A B) (or-elim (eqb A B) (listed As A) m)
     go t (inr i) rest = or-r t _ (rest i)
 
 -- where no number of a list fails, the fault is the one after it
-failing-none : (f : ℕ → Bool) (i : ℕ) (As : List ℕ) (after : Fault) → ((A : ℕ) → A ∈ listed As → f A ≡ true) → firstFailing f i As after ≡ after
+none-fails : (f : ℕ → Bool) (i : ℕ) (As : List ℕ) (after : Fault) → ((A : ℕ) → A ∈ listed As → f A ≡ true) → firstFailing f i As after ≡ after
 unfolding firstFailing listed
-failing-none f i [] after h = refl
-failing-none f i (A ∷ As) after h =
-    rw (h A (or-l (eqb A A) _ (eq-eqb A A refl))) (failing-none f (suc i) As after (λ B m. h B (or-r (eqb B A) _ m)))
+none-fails f i [] after h = refl
+none-fails f i (A ∷ As) after h =
+    rw (h A (or-l (eqb A A) _ (eq-eqb A A refl))) (none-fails f (suc i) As after (λ B m. h B (or-r (eqb B A) _ m)))
 
 or-nothing : (b : Bool) → (b || false) ≡ b
 or-nothing true = refl
@@ -174,5 +174,5 @@ module _ (rules : List Rule) (facts : Set) (known : ℕ) where
         goes more f =
             ap (faultIn rules facts known T F (s .numbers) (length es)) (group-first (length es) (s .numbers) A As more f)
             ∙ group-goes T F (s .numbers) (length es) (length es) (A ∷ As) (blocks more) not-used
-            ∙ failing-none (falseFollows rules facts known T F (listed (A ∷ As))) (length es) (A ∷ As) _ h
+            ∙ none-fails (falseFollows rules facts known T F (listed (A ∷ As))) (length es) (A ∷ As) _ h
             ∙ ap (λ (n : ℕ). faultIn rules facts known T (F ∪ listed (A ∷ As)) (add (length es) (s .numbers)) n (blocks more)) (sym longer)

@@ -1,2 +1,3 @@
--- What the contracts of `maker` cite.
+-- What the maker promises, and what its functions tell each other.
+pub mod Result
 pub mod Making

@@ -1,31 +1,14 @@
--- What the maker of a sheet promises, and what its functions tell each other.
-use mathlib.Core.Path.{_≡_}
-use mathlib.Core.Bool.{Bool, true, false, not, cond, _&&_}
+-- What the functions of the maker tell each other.
+use mathlib.Core.Bool.{Bool, not, cond, _&&_}
 use mathlib.Core.List.{List, [], _∷_, _++_}
-use Prim.Native.Nat.{ℕ, suc, _*_, _≤_, _<_}
+use Prim.Native.Nat.{ℕ, suc}
 use lib.Dec.{eqb, ltb, leb}
-use Rattle.wfsx.specs.Sets.{Set, add, _isIn_}
-use Rattle.wfsx.specs.Program.{Rule, Program, positive, default}
+use Rattle.wfsx.specs.Sets.{Set, add}
+use Rattle.wfsx.specs.Program.{Rule}
 use Rattle.wfsx.specs.Model.{every}
 use Rattle.litset.specs.Words.{room}
-use Rattle.book.specs.Book.{program}
-use Rattle.sheet.specs.Sheet.{shown, factNumber, judgement, accepted, IsSo}
-use Rattle.sheet.specs.Flat.{entriesIn}
+use Rattle.sheet.specs.Sheet.{shown, factNumber}
 use Rattle.sheet.specs.declared.SheetEntry.{SheetEntry}
-use Rattle.maker.specs.declared.Made.{Made}
-
--- all literals of P lie below n
-pub record Within (n : ℕ) (P : Program) : Type 0 where
-  pub heads-below : (r : Rule) → r isIn P → r .head < n
-  pub positive-below : (r : Rule) → r isIn P → (B : ℕ) → positive B isIn r .body → B < n
-  pub default-below : (r : Rule) → r isIn P → (C : ℕ) → default C isIn r .body → C < n
-
--- What is made for a claim. Which sheet it is, is the program's choice: it has at most two entries for each known literal, the check accepts it where one was found,
--- and one is found for every claim that is so, where all literals of the program are known.
-pub record MadeFor (rules : List Rule) (facts : Set) (known : ℕ) (truth : Bool) (A : ℕ) (m : Made) : Type 0 where
-  pub few : m .count ≤ 2 * known
-  pub passes : m .found ≡ true → judgement rules facts known truth A (entriesIn (m .sheet .fields) (m .count)) ≡ accepted
-  pub complete : Within known (program rules facts) → A < known → IsSo (program rules facts) truth A → m .found ≡ true
 
 -- ---- the entries that are written
 

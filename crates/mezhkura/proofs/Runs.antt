@@ -1,6 +1,6 @@
 -- What the walks over a lent run cite: what is said of the run is what is said of its entries in a sheet's table.
 use mathlib.Core.Path.{_≡_, refl, sym, _∙_, ap, ap₂}
-use mathlib.Core.List.{List, [], _∷_, _++_}
+use mathlib.Core.List.{List, _++_}
 use Prim.Native.Nat.{ℕ, _≤_}
 use native.Mathlib.Omega.{arith}
 use lib.ListN.{length, drop}
@@ -9,12 +9,10 @@ use Rattle.sheet.specs.Sheet.{maxSheet}
 use Rattle.sheet.specs.Flat.{entryIn, entriesIn}
 use Rattle.sheet.specs.declared.SheetEntry.{SheetEntry}
 use Rattle.sheet.specs.declared.Sheet.{Sheet}
-use Rattle.lesson.specs.State.{gives}
 use Rattle.lesson.specs.Calls.{meaningOf, Checks, makeSaid, MakesTable, Makes}
 use Rattle.lesson.specs.State.{entriesAfter}
 use Rattle.lesson.specs.declared.MakeAnswer.{MakeAnswer}
 use Rattle.lesson.specs.declared.MakeAnswer.the-variants as making
-use Rattle.lesson.specs.declared.MakeReply as lesson-make
 use Rattle.lesson.proofs.Sheets.{check-length, make-within}
 use Rattle.desk.specs.declared.Desk.{Desk}
 use Rattle.mezhkura.specs.Numbers.{isSet, CheckIn, makeNumbers, MakeIn, SheetIn}

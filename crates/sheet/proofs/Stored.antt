@@ -6,9 +6,8 @@ use Prim.Native.Nat.{ℕ, zero, suc, _+_, _*_, _/_, _≤_, _<_}
 use native.Mathlib.Omega.{arith}
 use lib.ListN.{length, getD, set, length-set, List·getD-eq-default}
 use lib.Seq.{sets, length-sets, getD-set-same, getD-set-other}
-use Rattle.store.proofs.Stored.{sets-first, sets-out}
-use Rattle.book.specs.Book.{rows}
-use Rattle.book.proofs.Rows.{rows-last}
+use Rattle.store.proofs.Stored.{sets-out}
+use Rattle.book.proofs.Rows.{rows-same, rows-last}
 use Rattle.sheet.specs.Flat.{entryIn, entriesIn, withEntry}
 use Rattle.sheet.specs.declared.SheetEntry.{SheetEntry}
 
@@ -82,11 +81,6 @@ module _ (fields : List ℕ) (i : ℕ) where
         let same : (k : ℕ) → k < 4 → getD (sets fields (4 * i) (numbersOf e)) (4 * i + k) 0 ≡ getD (numbersOf e) k 0 = λ k l. sets-at fields (4 * i) (numbersOf e) k l h in
         let zeroth : 4 * i ≡ 4 * i + 0 = omega arith in
         rw (ap (λ (k : ℕ). getD (sets fields (4 * i) (numbersOf e)) k 0) zeroth ∙ same 0 (omega arith), same 1 (omega arith), same 2 (omega arith), same 3 (omega arith)) refl
-
-rows-same : {X : Type 0} (f g : ℕ → X) (k n : ℕ) → ((j : ℕ) → j < k + n → f j ≡ g j) → rows f k n ≡ rows g k n
-unfolding rows
-rows-same f g k zero h = refl
-rows-same f g k (suc n) h = rw (h k (omega arith), rows-same f g (suc k) n (λ j l. h j (omega arith))) refl
 
 -- an entry stored behind the first i
 pub entries-more : (fields : List ℕ) (i : ℕ) (e : SheetEntry) → 4 * i + 4 ≤ length fields → entriesIn (withEntry fields i e) (i + 1) ≡ entriesIn fields i ++ (e ∷ [])

@@ -1,6 +1,6 @@
 -- A sheet in a flat table of numbers: entry i has its kind, literal, rule number and group number at the places from 4 i on.
 use mathlib.Core.List.{List, [], _∷_}
-use Prim.Native.Nat.{ℕ, zero, suc, _+_, _*_}
+use Prim.Native.Nat.{ℕ, _+_, _*_}
 use lib.ListN.{getD, replicate}
 use lib.Seq.{sets}
 use Rattle.book.specs.Book.{rows}

@@ -1,10 +1,7 @@
 -- `make_sheet`: the sheet is that of the maker over the lesson's rules and facts.
 use borrow.Author.Needs.{needs}
 use mathlib.Core.Path.{sym, _∙_}
-use native.Mathlib.Omega.{arith}
-use Rattle.book.specs.Limits.{maxNames}
 use Rattle.book.proofs.Names.{names-counted}
-use Rattle.book.proofs.Counts.{clamp-most}
 use Rattle.lesson.proofs.Sheets.{make-state, make-given}
 use Rattle.lesson.proofs.make_sheet.Statement.{statement}
 use Rattle.lesson.proofs.make_sheet.Tie as tie

@@ -3,11 +3,10 @@ use borrow.Author.Needs.{needs}
 use Prim.Native.Nat.{_+_, _*_}
 use lib.ListN.{length}
 use Rattle.wfsx.specs.Sets.{_∈_}
-use mathlib.Core.Path.{_≡_, sym, _∙_}
+use mathlib.Core.Path.{sym, _∙_}
 use Prim.Native.Nat.{_-_, _≤_}
-use native.Mathlib.Omega.{arith}
 use borrow.Author.Tests.{not-true, not-false}
-use Rattle.litset.specs.Words.{capacity, setOf}
+use Rattle.litset.specs.Words.{setOf}
 use Rattle.maker.proofs.Loops.{Putting, putting-start, putting-skip, putting-room, putting-more, putting-end}
 use Rattle.maker.proofs.put_members.Statement.{statement}
 use Rattle.maker.proofs.put_members.Tie as tie

@@ -8,7 +8,6 @@ use Rattle.book.specs.Book.{ruleAt}
 use Rattle.maker.specs.Making.{adds}
 use mathlib.Core.Path.{sym, _∙_, refl}
 use Prim.Native.Nat.{_-_}
-use native.Mathlib.Omega.{arith}
 use borrow.Author.Tests.{not-true, not-false}
 use Rattle.litset.specs.Words.{setOf}
 use Rattle.maker.proofs.Loops.{Passing, passing-start, passing-skip, passing-room, passing-more, passing-end}
