@@ -149,7 +149,7 @@ all-known-requires c κs =
     (fits .few-names, omega arith, fits .few-literals)
 
 same-length : tie.Need-same-length
-same-length c = search needs
+same-length c = c .before .before .entries .given
 
 returns-3 : tie.Need-returns-3
 returns-3 c =
@@ -164,7 +164,7 @@ add-end : tie.Need-add-end
 add-end c = search needs
 
 same-length-2 : tie.Need-same-length-2
-same-length-2 c = search needs
+same-length-2 c = c .before .before .before .before .entries .given
 
 returns-4 : tie.Need-returns-4
 returns-4 c =
@@ -203,13 +203,13 @@ add-t17 : tie.Need-add-t17
 add-t17 c = search needs
 
 same-length-3 : tie.Need-same-length-3
-same-length-3 c = search needs
+same-length-3 c = c .before .before .before .before .before .heads .given
 
 same-length-4 : tie.Need-same-length-4
-same-length-4 c = search needs
+same-length-4 c = c .before .starts .given
 
 same-length-5 : tie.Need-same-length-5
-same-length-5 c = search needs
+same-length-5 c = at-stores c .before .before .before .before .before .entries .given
 
 returns-5 : tie.Need-returns-5
 returns-5 c =
