@@ -3,7 +3,7 @@
 use mathlib.Core.Path.{_≡_, refl, sym, _∙_}
 use mathlib.Core.Bool.{true, false, not, _&&_, Bool·not-not}
 use mathlib.Core.List.{List, []}
-use Prim.Native.Nat.{ℕ, _+_, _≤_, _<_}
+use Prim.Native.Nat.{ℕ, _+_, _-_, _≤_, _<_}
 use native.Mathlib.Omega.{arith}
 use lib.Dec.{eqb, leb}
 use lib.ListN.{length}
@@ -65,3 +65,7 @@ module _ (others : List (List ℕ)) where
   pub end-fields : wrongFields End others ≡ false → others ≡ []
   unfolding wrongFields
   end-fields e = no-entries others (eqb-true (length others) 0 (not-false (eqb (length others) 0) e))
+
+-- n fields of a rule's line: the first word, the head and the literals of the body
+pub body-count : {n others : ℕ} → n ≡ others + 1 → (1 ≤ others) × (others ≤ maxBody + 1) → (n - 2 ≤ maxBody) × (n - 2 + 1 ≡ others)
+body-count size few = (omega arith, omega arith)

@@ -10,9 +10,12 @@ use Rattle.scan.specs.Text.{newline, split, lenTo, rest, fields}
 use Rattle.scan.proofs.Places.{rest-here, rest-step, rest-none}
 use Rattle.scan.specs.declared.Alphabet.the-variants.{EitherCase}
 use Rattle.reader.specs.File.{Content, nothingYet, lineFault, withLine, accepted, refused, readLines}
-use Rattle.reader.specs.Steps.{noCounts, Holds, Stored, lastAnswer, FileRead}
+use Rattle.reader.specs.Steps.{noCounts, Holds, Stored, lineStep, LineRead, lastAnswer, FileRead}
 use Rattle.reader.specs.declared.Counts.{Counts}
+use Rattle.reader.specs.declared.LineAnswer.{LineAnswer}
+use Rattle.reader.specs.declared.LineAnswer.the-variants.{Fine, Fault}
 use Rattle.reader.specs.declared.FileAnswer.the-variants as whole
+use Rattle.reader.proofs.Answers.{was-fine, was-fault}
 
 module _ (d : Content) (number : ℕ) (b : List ℕ) (at : ℕ) where
   module _ (e : ℕ) (h : at ≤ length b) (q : e ≡ at + lenTo newline (drop at b)) where
@@ -39,6 +42,30 @@ pub record ReadTo (b : List ℕ) (t : Counts) (at number : ℕ) (keys text lengt
 pub read-none : (b : List ℕ) {keys text lengths heads starts entries : List ℕ} → Holds nothingYet noCounts keys
     → ReadTo b noCounts 0 1 keys text lengths heads starts entries text lengths heads starts entries
 read-none b h = record { content = nothingYet; held = h; stored = λ s. s; same = ap (readLines EitherCase nothingYet 1) (rest-here newline b 0 zero-le) }
+
+-- the line that ends at e is judged
+module _ {b : List ℕ} {t : Counts} {at number : ℕ} {keys text lengths heads starts entries text′ lengths′ heads′ starts′ entries′ : List ℕ}
+    (read : ReadTo b t at number keys text lengths heads starts entries text′ lengths′ heads′ starts′ entries′)
+    {e : ℕ} (h : at ≤ length b) (q : e ≡ at + lenTo newline (drop at b))
+    {r : LineAnswer} {keys″ text″ lengths″ heads″ starts″ entries″ : List ℕ}
+    (line : (d : Content) → Holds d t keys
+    → LineRead (lineStep d (fields (take (e - at) (drop at b)))) r keys″ text′ lengths′ heads′ starts′ entries′ text″ lengths″ heads″ starts″ entries″) where
+  pub read-on : {u : Counts} → r ≡ Fine u → ReadTo b u (e + 1) (number + 1) keys″ text lengths heads starts entries text″ lengths″ heads″ starts″ entries″
+  read-on x =
+      let judged = line (read .content) (read .held) in
+      let told = was-fine judged x in
+      record {
+        content = withLine EitherCase (read .content) (fields (take (e - at) (drop at b)));
+        held = told .1;
+        stored = λ none. judged .stored (told .0) (read .stored none);
+        same = sym (lines-go (read .content) number b at e h q (told .0)) ∙ read .same;
+      }
+
+  pub read-fault : {k : ℕ} → r ≡ Fault k
+      → FileRead (readLines EitherCase nothingYet 1 (split newline b)) (whole.Fault k number) keys″ text lengths heads starts entries text″ lengths″ heads″ starts″ entries″
+  read-fault {k} x =
+      let told = was-fault (line (read .content) (read .held)) x in
+      record { answer = sym (read .same) ∙ lines-stop (read .content) number b at e h q k (told .0) (told .1) }
 
 module _ {b : List ℕ} {t : Counts} {at number : ℕ} {keys text lengths heads starts entries text′ lengths′ heads′ starts′ entries′ : List ℕ}
     (read : ReadTo b t at number keys text lengths heads starts entries text′ lengths′ heads′ starts′ entries′) (none-left : length b < at) where

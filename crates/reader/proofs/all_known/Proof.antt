@@ -12,6 +12,7 @@ use Rattle.book.specs.Limits.{maxNames}
 use Rattle.keys.specs.Keyed.{Keyed}
 use Rattle.reader.specs.File.{allFields, isKnown}
 use Rattle.reader.specs.Steps.{fieldCode}
+use Rattle.reader.proofs.Sums.{next-within, next-less, next-count}
 use Rattle.reader.proofs.Fields.{fields-go, fields-stop, fields-end, not-declared, is-declared, code-is}
 use Rattle.reader.proofs.Entries.{store-field, store-none}
 use native.Mathlib.Omega.{arith}
@@ -116,7 +117,7 @@ add-p : tie.Need-add-p Inv-loop μ-loop
 add-p c = let within = inside (at-end (at-field (at-told c))) in omega arith
 
 loop-less : tie.Need-loop-less Inv-loop μ-loop
-loop-less c = search needs
+loop-less c = let end = at-end (at-field (at-told c)) in next-less (end .end-of .ensures .1) (inside end)
 
 loop-again : tie.Need-loop-again Inv-loop μ-loop
 loop-again c =
@@ -124,12 +125,11 @@ loop-again c =
     let end = at-end (at-field told) in
     let at = at-loop end in
     let was = at .loop in
-    let within = inside end in
     let l = told .before .literal .given .0 .0 in
     let t = told .before .literal .given .0 .1 .0 in
     let stored = c .before .before .put16 .ensures in (
-      omega arith,
-      omega (arith, end .end-of .ensures .1),
+      next-within (inside end),
+      next-count (end .end-of .ensures .1) (at-start at .args .at) (was .inv .1),
       ap length stored ∙ simp length-set (was .inv .2),
       λ names k e. let entry = sym (at-field told .known-of .ensures .known names k e) ∙ told .before .literal .given .1 in (
         sym (fields-go (isKnown EitherCase names) (line-of at) (was .p) (end .end-of .result) (end .before .loop-test .taken) (end .end-of .ensures .0) (is-declared names _ l t entry)) ∙ was .inv .3 names k e .0,

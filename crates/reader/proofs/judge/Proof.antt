@@ -12,7 +12,7 @@ use Rattle.scan.specs.declared.Word.{Word}
 use Rattle.scan.specs.declared.Word.the-variants.{Name, Rule as RuleWord, Unknown}
 use Rattle.scan.proofs.Places.{split-first, split-one, rest-part, rest-within}
 use Rattle.book.specs.Limits.{maxBody}
-use Rattle.reader.proofs.FieldCounts.{name-fields, rule-fields, unknown-wrong}
+use Rattle.reader.proofs.FieldCounts.{name-fields, rule-fields, unknown-wrong, body-count}
 use Rattle.reader.specs.File.{Content, wrongFields}
 use Rattle.reader.specs.Steps.{Step, lineStep, wordStep}
 use Rattle.reader.proofs.Fields.{first-field}
@@ -181,9 +181,8 @@ rule-line-requires : tie.Need-rule-line-requires
 rule-line-requires c κs =
     let arm = at-rule c in
     let end = at-end (arm .before .before .before) in
-    let some = some-fields arm in
-    let count = counted (arm .before .before .before .before .before .before) in
-    (at-start (end .before) .pre, end .before .if1 .left, omega arith, omega (arith, ap length (rule-part arm)))
+    let body = body-count (counted (arm .before .before .before .before .before .before)) (some-fields arm) in
+    (at-start (end .before) .pre, end .before .if1 .left, body .0, body .1 ∙ sym (ap length (rule-part arm)))
 
 enum-told-3 : tie.Need-enum-told-3
 enum-told-3 c = search needs

@@ -16,6 +16,7 @@ use Rattle.keys.specs.Keyed.{KeyFor, Keyed}
 use Rattle.keys.proofs.Declared.{keyed-more}
 use Rattle.reader.specs.File.{Content, isFound}
 use Rattle.reader.specs.Steps.{Holds, wordStep}
+use Rattle.reader.proofs.Sums.{names-fit, text-fits}
 use Rattle.reader.proofs.Numbers.{name-malformed, name-declared, name-beyond, name-fine}
 use Rattle.reader.proofs.Held.{names-held, name-held, name-stored}
 use Rattle.reader.proofs.Answers.{name-fault}
@@ -117,7 +118,7 @@ put-requires : tie.Need-put-requires
 put-requires c κs = search needs
 
 mul-put-all : tie.Need-mul-put-all
-mul-put-all c = search needs
+mul-put-all c = text-fits (start-of (at-look (c .before .before .before .before .before .before .before .before)) .pre .0)
 
 put-all-requires : tie.Need-put-all-requires
 put-all-requires c κs = search needs
@@ -132,7 +133,7 @@ put8-requires : tie.Need-put8-requires
 put8-requires c κs = search needs
 
 add-t24 : tie.Need-add-t24
-add-t24 c = search needs
+add-t24 c = names-fit (start-of (at-look (at-room (at-text c))) .pre .0)
 
 same-length-5 : tie.Need-same-length-5
 same-length-5 c = c .before .before .before .before .before .before .before .before .before .before .before .keys .given

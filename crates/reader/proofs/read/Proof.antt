@@ -36,13 +36,13 @@ read-file-requires : tie.Need-read-file-requires
 read-file-requires c κs = nothing-held
 
 enum-known-t : tie.Need-enum-known-t
-enum-known-t c = search needs
+enum-known-t c = c .match .keys1
 
 accepted-with-requires : tie.Need-accepted-with-requires
 accepted-with-requires c κs = search needs
 
 enum-known-number : tie.Need-enum-known-number
-enum-known-number c = search needs
+enum-known-number c = c .match .keys2
 
 refusal-requires : tie.Need-refusal-requires
 refusal-requires c κs = search needs

@@ -1,6 +1,6 @@
 -- `read_lines`: the lines passed have no fault and what they say is held and stored, so the lines that are left decide.
 use borrow.Author.Needs.{needs}
-use mathlib.Core.Path.{_≡_, sym, _∙_}
+use mathlib.Core.Path.{_≡_, refl, _∙_}
 use mathlib.Core.List.{List}
 use Prim.Native.Nat.{ℕ, _+_, _-_, _≤_}
 use native.Mathlib.Omega.{arith}
@@ -8,8 +8,8 @@ use lib.ListN.{length, take, drop}
 use Rattle.scan.specs.Text.{fields}
 use Rattle.scan.specs.declared.Alphabet.the-variants.{EitherCase}
 use Rattle.reader.specs.File.{withLine}
-use Rattle.reader.proofs.Answers.{was-fine, was-fault}
-use Rattle.reader.proofs.Progress.{lines-go, lines-stop, ReadTo, read-none, read-last}
+use Rattle.reader.proofs.Sums.{next-fits, next-within, next-less, next-number, number-fits}
+use Rattle.reader.proofs.Progress.{ReadTo, read-none, read-on, read-fault, read-last}
 use Rattle.reader.proofs.read_lines.Statement.{statement}
 use Rattle.reader.proofs.read_lines.Tie as tie
 
@@ -81,7 +81,7 @@ none-yet-requires c κs = search needs
 loop-holds : tie.Need-loop-holds Inv-loop μ-loop
 loop-holds c =
     let start = c .before .before .before .before .before .before .before .before .before in
-    (search needs, search needs, rw (c .none-yet .ensures) (read-none (start .args .b .now) (start .pre)), search needs, search needs, search needs, search needs, search needs, search needs, search needs)
+    (search needs, search needs, rw (c .none-yet .ensures) (read-none (start .args .b .now) (start .pre)), refl, refl, refl, refl, refl, refl, refl)
 
 end-of-requires : tie.Need-end-of-requires Inv-loop μ-loop
 end-of-requires c κs = search needs
@@ -99,10 +99,10 @@ judge-requires : tie.Need-judge-requires Inv-loop μ-loop
 judge-requires c κs = at-loop (c .before .before .before .before .before .before .before .before) .loop .inv .2 .held .counted .fits
 
 enum-known-u : tie.Need-enum-known-u Inv-loop μ-loop
-enum-known-u c = search needs
+enum-known-u c = c .match .keys1
 
 enum-known-k : tie.Need-enum-known-k Inv-loop μ-loop
-enum-known-k c = search needs
+enum-known-k c = c .match .keys2
 
 same-length : tie.Need-same-length Inv-loop μ-loop
 same-length c = lengths-kept (c .before .before .before) .0
@@ -129,53 +129,26 @@ returns : tie.Need-returns Inv-loop μ-loop
 returns c =
     let judged = at-fault c in
     let end = at-end judged in
-    let was = at-loop end .loop in
-    let read = was .inv .2 in
-    let told = was-fault (judged .judge .ensures (read .content) (read .held)) (c .before .k .given .1) in
-    record {
-      answer = sym (read .same)
-          ∙ lines-stop (read .content) (was .number) (bytes-of (at-loop end)) (was .at) (end .end-of .result) (end .before .loop-test .taken) (end .end-of .ensures .0) _ (told .0) (told .1);
-    }
+    read-fault (at-loop end .loop .inv .2) (end .before .loop-test .taken) (end .end-of .ensures .0) (judged .judge .ensures) (c .before .k .given .1)
 
 add-at : tie.Need-add-at Inv-loop μ-loop
-add-at c =
-    let end = at-end (at-fine c) in
-    let within = inside end in
-    let size = at-size (at-loop end) .shared-slice-known .given in
-    omega arith
+add-at c = let end = at-end (at-fine c) in next-fits (inside end) (at-start (at-loop end) .good .0 .1)
 
 add-number : tie.Need-add-number Inv-loop μ-loop
-add-number c =
-    let end = at-end (at-fine c) in
-    let size = at-size (at-loop end) .shared-slice-known .given in
-    let count = at-loop end .loop .inv .1 in
-    omega arith
+add-number c = let end = at-end (at-fine c) in number-fits (at-loop end .loop .inv .1) (end .before .loop-test .taken) (at-start (at-loop end) .good .0 .1)
 
 loop-less : tie.Need-loop-less Inv-loop μ-loop
-loop-less c =
-    let within = inside (at-end (at-fine c)) in
-    let up = at-end (at-fine c) .end-of .ensures .1 in
-    omega arith
+loop-less c = let end = at-end (at-fine c) in next-less (end .end-of .ensures .1) (inside end)
 
 loop-again : tie.Need-loop-again Inv-loop μ-loop
 loop-again c =
     let judged = at-fine c in
     let end = at-end judged in
     let was = at-loop end .loop in
-    let read = was .inv .2 in
-    let within = inside end in
-    let up = end .end-of .ensures .1 in
-    let line = judged .judge .ensures (read .content) (read .held) in
-    let kept = lengths-kept (c .before .before .before) in
-    let told = was-fine line (c .before .u .given .1) in (
-      omega arith,
-      omega arith,
-      record {
-        content = withLine EitherCase (read .content) (line-at end);
-        held = told .1;
-        stored = λ none. line .stored (told .0) (read .stored none);
-        same = sym (lines-go (read .content) (was .number) (bytes-of (at-loop end)) (was .at) (end .end-of .result) (end .before .loop-test .taken) (end .end-of .ensures .0) (told .0)) ∙ read .same;
-      },
+    let kept = lengths-kept (c .before .before .before) in (
+      next-within (inside end),
+      next-number (end .end-of .ensures .1) (was .inv .1),
+      read-on (was .inv .2) (end .before .loop-test .taken) (end .end-of .ensures .0) (judged .judge .ensures) (c .before .u .given .1),
       kept .0,
       kept .1,
       kept .2,

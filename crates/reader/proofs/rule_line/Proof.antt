@@ -16,6 +16,7 @@ use Rattle.reader.specs.File.{Content, allFields, isKnown, malformed}
 use Rattle.reader.specs.Steps.{Holds, knownOf, FieldsKnown, wordStep}
 use Rattle.reader.specs.declared.Known.{Known}
 use Rattle.reader.specs.declared.Known.the-variants.{Entry}
+use Rattle.reader.proofs.Sums.{rules-fit, used-fits, literal-fits, start-fits}
 use Rattle.reader.proofs.Fields.{first-field, first-passes, first-fails, not-declared, is-declared, literal-is}
 use Rattle.reader.proofs.Numbers.{rule-malformed, rule-undeclared, rule-too-many, rule-too-long, rule-fine}
 use Rattle.reader.proofs.Held.{names-held, rule-held, rule-stored}
@@ -161,7 +162,7 @@ returns-3 c =
     (λ z. omega arith)
 
 add-end : tie.Need-add-end
-add-end c = search needs
+add-end c = let s = at-start (at-forms (at-end (at-known (at-body (c .before))))) in used-fits (s .pre .0) (s .pre .2)
 
 same-length-2 : tie.Need-same-length-2
 same-length-2 c = c .before .before .before .before .entries .given
@@ -184,23 +185,22 @@ cast-put16 : tie.Need-cast-put16
 cast-put16 c =
     let told = at-known (at-body (c .before .before .before .before)) in
     let few = at-start (at-forms (at-end told)) .pre .0 .few-names in
-    let small = at-head told .known-of .ensures .small _ _ (told .before .literal .given .1) in
-    search needs
+    literal-fits (at-head told .known-of .ensures .small _ _ (told .before .literal .given .1) .0) few
 
 put16-requires : tie.Need-put16-requires
 put16-requires c κs = search needs
 
 add-put16 : tie.Need-add-put16
-add-put16 c = search needs
+add-put16 c = rules-fit (at-start (at-forms (at-end (at-known (at-body (c .before .before .before .before .before .before .before .before))))) .pre .0)
 
 cast-put16-2 : tie.Need-cast-put16-2
-cast-put16-2 c = let fits = body-fits (c .before .before .before .before .before) in search needs
+cast-put16-2 c = start-fits (body-fits (c .before .before .before .before .before))
 
 put16-requires-2 : tie.Need-put16-requires-2
 put16-requires-2 c κs = search needs
 
 add-t17 : tie.Need-add-t17
-add-t17 c = search needs
+add-t17 c = rules-fit (at-start (at-forms (at-end (at-known (at-body (at-stores c .before .before .before))))) .pre .0)
 
 same-length-3 : tie.Need-same-length-3
 same-length-3 c = c .before .before .before .before .before .heads .given

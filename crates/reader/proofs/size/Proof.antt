@@ -33,10 +33,10 @@ read-file-requires : tie.Need-read-file-requires
 read-file-requires c κs = nothing-held
 
 enum-known-t : tie.Need-enum-known-t
-enum-known-t c = search needs
+enum-known-t c = c .match .keys1
 
 enum-known-number : tie.Need-enum-known-number
-enum-known-number c = search needs
+enum-known-number c = c .match .keys2
 
 returns : tie.Need-returns
 returns c =
