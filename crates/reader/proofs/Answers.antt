@@ -7,12 +7,14 @@ use Rattle.scan.specs.Text.{wordOf}
 use Rattle.scan.specs.declared.Word.{Word}
 use Rattle.scan.specs.declared.Word.the-variants.{Name, Rule as RuleWord, End}
 use Rattle.reader.specs.File.{Content, nothingYet, lineFault, extended, withLine, Outcome, accepted, refused}
-use Rattle.reader.specs.Steps.{noCounts, Holds, Step, lineStep, wordStep, Answered, NameRead, RuleRead, LineRead, FineFile, FileAnswered, FileRead}
+use Rattle.reader.specs.Loading.{loadedOf}
+use Rattle.reader.specs.Steps.{noCounts, Holds, Stored, Step, lineStep, wordStep, Answered, NameRead, RuleRead, LineRead, FineFile, FileAnswered, FileRead}
 use Rattle.reader.specs.declared.Counts.{Counts}
 use Rattle.reader.specs.declared.LineAnswer.{LineAnswer}
 use Rattle.reader.specs.declared.LineAnswer.the-variants.{Fine, Fault}
 use Rattle.reader.specs.declared.FileAnswer.{FileAnswer}
 use Rattle.reader.specs.declared.FileAnswer.the-variants as whole
+use Rattle.reader.specs.declared.Loaded.{Loaded}
 
 pub by-word : (d : Content) (w : Word) {first : List ℕ} {fs others : List (List ℕ)} → fs ≡ first ∷ others → wordOf first ≡ w → lineStep d fs ≡ wordStep d w others
 unfolding lineFault withLine
@@ -64,6 +66,13 @@ module _ {o : Outcome} {r : FileAnswer} {keys text lengths heads starts entries 
     (read : FileRead o r keys text lengths heads starts entries text′ lengths′ heads′ starts′ entries′) where
   pub file-fine : {t : Counts} → r ≡ whole.Fine t → FineFile o t keys text lengths heads starts entries text′ lengths′ heads′ starts′ entries′
   file-fine e = subst (λ (x : FileAnswer). FileAnswered o x keys text lengths heads starts entries text′ lengths′ heads′ starts′ entries′) e (read .answer)
+
+  -- what the tables of an accepted file give is what its outcome gives
+  pub loaded-fine : {t : Counts} → r ≡ whole.Fine t → Stored nothingYet text lengths heads starts entries → {l : Loaded}
+      → ((d : Content) (ks : List ℕ) → Holds d t ks → Stored d text′ lengths′ heads′ starts′ entries′ → l ≡ loadedOf (accepted (d .names) (d .rules))) → l ≡ loadedOf o
+  loaded-fine e none tables =
+      let fine = file-fine e in
+      tables (fine .content) keys (fine .held) (fine .stored none) ∙ ap loadedOf (sym (fine .outcome))
 
   pub file-fault : {number line : ℕ} → r ≡ whole.Fault number line → o ≡ refused number line
   file-fault e = subst (λ (x : FileAnswer). FileAnswered o x keys text lengths heads starts entries text′ lengths′ heads′ starts′ entries′) e (read .answer)

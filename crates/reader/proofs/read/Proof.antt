@@ -2,7 +2,7 @@
 use borrow.Author.Needs.{needs}
 use mathlib.Core.Path.{sym, ap, _∙_}
 use Rattle.reader.specs.Loading.{loadedOf}
-use Rattle.reader.proofs.Answers.{file-fine, file-fault}
+use Rattle.reader.proofs.Answers.{loaded-fine, file-fault}
 use Rattle.reader.proofs.Held.{nothing-held, nothing-stored}
 use Rattle.reader.proofs.read.Statement.{statement}
 use Rattle.reader.proofs.read.Tie as tie
@@ -50,8 +50,7 @@ refusal-requires c κs = search needs
 returns : tie.Need-returns
 returns c =
     let read = at-read (c .before .before .before .before) in
-    let fine = file-fine (read .read-file .ensures) (c .before .before .t .given .1) in
-    c .accepted-with .ensures (fine .content) _ (fine .held) (fine .stored nothing-stored) ∙ ap loadedOf (sym (fine .outcome))
+    loaded-fine (read .read-file .ensures) (c .before .before .t .given .1) nothing-stored (c .accepted-with .ensures)
 
 returns-2 : tie.Need-returns-2
 returns-2 c =

@@ -2,9 +2,9 @@
 use borrow.Author.Needs.{needs}
 use mathlib.Core.Path.{sym, ap, _∙_}
 use Rattle.reader.specs.Sizing.{sizeOf}
-use Rattle.reader.proofs.Answers.{file-fine, file-fault}
+use Rattle.reader.proofs.Answers.{file-fault}
 use Rattle.reader.proofs.Held.{nothing-held}
-use Rattle.reader.proofs.Sizing.{counted-size, refused-size}
+use Rattle.reader.proofs.Sizing.{size-fine, refused-size}
 use Rattle.reader.proofs.size.Statement.{statement}
 use Rattle.reader.proofs.size.Tie as tie
 
@@ -41,8 +41,7 @@ enum-known-number c = c .match .keys2
 returns : tie.Need-returns
 returns c =
     let read = c .before .before .before .before .before .before .before .before .before .before in
-    let fine = file-fine (read .read-file .ensures) (c .before .t .given .1) in
-    counted-size (fine .held) ∙ ap sizeOf (sym (fine .outcome))
+    size-fine (read .read-file .ensures) (c .before .t .given .1)
 
 returns-2 : tie.Need-returns-2
 returns-2 c =
