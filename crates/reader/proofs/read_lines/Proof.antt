@@ -3,11 +3,7 @@ use borrow.Author.Needs.{needs}
 use mathlib.Core.Path.{_≡_, refl, _∙_}
 use mathlib.Core.List.{List}
 use Prim.Native.Nat.{ℕ, _+_, _-_, _≤_}
-use native.Mathlib.Omega.{arith}
-use lib.ListN.{length, take, drop}
-use Rattle.scan.specs.Text.{fields}
-use Rattle.scan.specs.declared.Alphabet.the-variants.{EitherCase}
-use Rattle.reader.specs.File.{withLine}
+use lib.ListN.{length}
 use Rattle.reader.proofs.Sums.{next-fits, next-within, next-less, next-number, number-fits}
 use Rattle.reader.proofs.Progress.{ReadTo, read-none, read-on, read-fault, read-last}
 use Rattle.reader.proofs.read_lines.Statement.{statement}
@@ -25,11 +21,8 @@ abbrev μ-loop : tie.MeasureT-loop
 
 -- ---- the places: the loop's head, the end of a line, the line judged, and its answer
 
-abbrev at-size : tie.At-loop Inv-loop μ-loop → tie.After-shared-slice-known Inv-loop μ-loop
-at-size c = c .before .before .before .before .before .before .before .before .before
-
 abbrev at-start : tie.At-loop Inv-loop μ-loop → tie.Start Inv-loop μ-loop
-at-start c = at-size c .before
+at-start c = c .before .before .before .before .before .before .before .before .before .before
 
 abbrev bytes-of : tie.At-loop Inv-loop μ-loop → List ℕ
 bytes-of c = at-start c .args .b .now
@@ -48,10 +41,6 @@ at-fine c = at-answer (c .before .before .before)
 
 abbrev at-fault : tie.After-known-told2 Inv-loop μ-loop → tie.After-judge Inv-loop μ-loop
 at-fault c = at-answer (c .before .before .before)
-
--- the fields of the line that ends there
-abbrev line-at : tie.After-end-of Inv-loop μ-loop → List (List ℕ)
-line-at c = fields (take (c .end-of .result - at-loop c .loop .at) (drop (at-loop c .loop .at) (bytes-of (at-loop c))))
 
 inside : (c : tie.After-end-of Inv-loop μ-loop) → c .end-of .result ≤ length (bytes-of (at-loop c))
 inside c = c .end-of .ensures .2 (c .before .loop-test .taken)
