@@ -20,10 +20,6 @@ use Rattle.mezhkura.specs.declared.CheckReply.{CheckReply}
 use Rattle.mezhkura.specs.declared.MakeReply.{MakeReply}
 use Rattle.mezhkura.specs.declared.SheetMade.{SheetMade}
 
--- an entry whose numbers are 0
-abbrev pub zeros : SheetEntry
-zeros = record { kind = 0; literal = 0; rule = 0; group = 0 }
-
 -- the check of a run of entries
 abbrev pub ChecksRun : Desk → ℕ → ℕ → List SheetEntry → CheckReply → Type 0
 ChecksRun desk literal truth es r = CheckIn (Checks (desk .shelf) (desk .lesson) literal (isSet truth) es) r

@@ -49,13 +49,13 @@ use Rattle.sheet.specs.Flat.{entriesIn, withEntry, blank}
 use Rattle.sheet.specs.declared.SheetEntry.{SheetEntry}
 use Rattle.sheet.specs.declared.Sheet.{Sheet}
 use Rattle.desk.specs.declared.Desk.{Desk}
-use Rattle.mezhkura.proofs.Runs.{zeros, ChecksRun}
+use Rattle.mezhkura.proofs.Runs.{ChecksRun}
 use Rattle.mezhkura.specs.declared.CheckReply.{CheckReply}
-use Rattle.mezhkura.proofs.Called.{Answers, answers, calls-plain, Borrows, calls-lending}
-use Rattle.mezhkura.proofs.Copied.{Copied, copied-none, copied-more}
+use Rattle.lent.proofs.Called.{Answers, answers, calls-plain, Borrows, calls-lending}
+use Rattle.lent.proofs.Copied.{zeros, Copied, copied-none, copied-more}
 use Rattle.mezhkura.proofs.Runs.{run-flat}
-use Rattle.mezhkura.proofs.Tables.{tableTy, IsTable, big-lit, lentTo, MutTo, mut-loan}
-use Rattle.mezhkura.proofs.Values.{R, Q, B, mach, machS, word, Arg, typed, typedS, typedB, size, table-room, is-table, is-sheet, wide, next-fits, Nearer, nearer-wf}
+use Rattle.lent.proofs.Tables.{tableTy, IsTable, big-lit, lentTo, MutTo, mut-loan}
+use Rattle.lent.proofs.Values.{R, Q, B, mach, machS, word, Arg, typed, typedS, typedB, size, table-room, is-table, is-sheet, wide, next-fits, Nearer, nearer-wf}
 use Rattle.sheet.proofs.SheetEntry as T
 use Rattle.sheet.proofs.SheetEntry.Laws as T′
 use Rattle.sheet.proofs.Sheet as S

@@ -48,14 +48,14 @@ use denote.Exit.{yes}
 use Rattle.sheet.specs.Flat.{entryIn}
 use Rattle.sheet.specs.declared.SheetEntry.{SheetEntry}
 use Rattle.desk.specs.declared.Desk.{Desk}
-use Rattle.mezhkura.proofs.Runs.{zeros, MadeFor, MakesRun}
+use Rattle.mezhkura.proofs.Runs.{MadeFor, MakesRun}
 use Rattle.mezhkura.specs.declared.SheetMade.{SheetMade}
 use Rattle.mezhkura.specs.declared.MakeReply.{MakeReply}
-use Rattle.mezhkura.proofs.Called.{Answers, answers, calls-plain, Borrows, calls-lending}
-use Rattle.mezhkura.proofs.Copied.{over, over-none, over-more, over-length}
+use Rattle.lent.proofs.Called.{Answers, answers, calls-plain, Borrows, calls-lending}
+use Rattle.lent.proofs.Copied.{zeros, over, over-none, over-more, over-length}
 use Rattle.mezhkura.proofs.Runs.{made-within, makes-run}
-use Rattle.mezhkura.proofs.Tables.{tableTy, IsTable, big-lit, lentTo, ShrTo, shr-loan}
-use Rattle.mezhkura.proofs.Values.{R, B, mach, word, Arg, typed, typedB, size, table-room, is-table, wide, next-fits, Nearer, nearer-wf}
+use Rattle.lent.proofs.Tables.{tableTy, IsTable, big-lit, lentTo, ShrTo, shr-loan}
+use Rattle.lent.proofs.Values.{R, B, mach, word, Arg, typed, typedB, size, table-room, is-table, wide, next-fits, Nearer, nearer-wf}
 use Rattle.sheet.proofs.SheetEntry as T
 use Rattle.sheet.proofs.SheetEntry.Laws as T′
 use Rattle.desk.proofs.Desk as D

@@ -29,7 +29,7 @@ use denote.Slice.{sliceVal, MutSlice, ShrSlice, Room, finally}
 use denote.Lend.{Held, lends-slice, slice-back, lends-shr-slice}
 use denote.Index.{row, whole-in, whole-out}
 use denote.Steps.{owned, facts}
-use Rattle.mezhkura.proofs.Called.{Loan}
+use Rattle.lent.proofs.Called.{Loan}
 
 -- ---- a table's machine value
 

@@ -21,7 +21,7 @@ use Rattle.sheet.specs.Sheet.{maxSheet}
 use Rattle.sheet.specs.declared.SheetEntry.{SheetEntry}
 use Rattle.sheet.specs.declared.Sheet.{Sheet}
 use Rattle.desk.specs.declared.Desk.{Desk}
-use Rattle.mezhkura.proofs.Tables.{IsTable}
+use Rattle.lent.proofs.Tables.{IsTable}
 use Rattle.sheet.proofs.SheetEntry as T
 use Rattle.sheet.proofs.SheetEntry.Laws as T′
 use Rattle.sheet.proofs.Sheet as S

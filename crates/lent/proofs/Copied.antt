@@ -13,7 +13,10 @@ use Rattle.sheet.specs.Flat.{entryIn, entriesIn, withEntry, blank}
 use Rattle.sheet.specs.declared.SheetEntry.{SheetEntry}
 use Rattle.sheet.specs.declared.Sheet.{Sheet}
 use Rattle.sheet.proofs.Stored.{entries-more, stored-length}
-use Rattle.mezhkura.proofs.Runs.{zeros}
+
+-- an entry whose numbers are 0
+abbrev pub zeros : SheetEntry
+zeros = record { kind = 0; literal = 0; rule = 0; group = 0 }
 
 -- ---- from a run into a table
 
