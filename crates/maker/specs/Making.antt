@@ -1,14 +1,18 @@
 -- What the functions of the maker tell each other.
 use mathlib.Core.Bool.{Bool, not, cond, _&&_}
 use mathlib.Core.List.{List, [], _∷_, _++_}
-use Prim.Native.Nat.{ℕ, suc}
+use mathlib.Core.Path.{_≡_}
+use Prim.Native.Nat.{ℕ, suc, _+_}
 use lib.Dec.{eqb, ltb, leb}
 use Rattle.wfsx.specs.Sets.{Set, add}
 use Rattle.wfsx.specs.Program.{Rule}
 use Rattle.wfsx.specs.Model.{every}
-use Rattle.litset.specs.Words.{room}
+use lib.ListN.{length}
+use Rattle.litset.specs.Words.{room, setOf}
 use Rattle.sheet.specs.Sheet.{shown, factNumber}
+use Rattle.sheet.specs.Flat.{entriesIn}
 use Rattle.sheet.specs.declared.SheetEntry.{SheetEntry}
+use Rattle.maker.specs.declared.Grown.{Grown}
 
 -- ---- the entries that are written
 
@@ -37,6 +41,12 @@ passed known F k (r ∷ rs) T = cond (adds known T F r) (ruleEntry (r .head) k �
 unfoldable pub withLiterals : List SheetEntry → Set → Set
 withLiterals [] T = T
 withLiterals (e ∷ es) T = withLiterals es (add (e .literal) T)
+
+-- what one pass over all rules leaves: n entries stand in the table before it
+pub record PassOf (rules : List Rule) (known : ℕ) (F T : Set) (before : List ℕ) (n : ℕ) (after : List ℕ) (r : Grown) : Type 0 where
+  pub count : r .count ≡ n + length (passed known F 0 rules T)
+  pub entries : entriesIn after (r .count) ≡ entriesIn before n ++ passed known F 0 rules T
+  pub truths : setOf (r .truths .words) ≡ withLiterals (passed known F 0 rules T) T
 
 -- passes over the rules, one after the other: from the entries `before` and the set T they lead to `after` and U
 pub data Passes (rules : List Rule) (known : ℕ) (F : Set) (before : List SheetEntry) (T : Set) : List SheetEntry → Set → Type 0 where

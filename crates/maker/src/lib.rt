@@ -12,7 +12,7 @@ ghost use Rattle.book.specs.Book.{ruleAt, rulesIn, rulesOf, namesOf};
 ghost use Rattle.sheet.specs.Sheet.{maxSheet};
 ghost use Rattle.sheet.specs.Flat.{entriesIn};
 ghost use Rattle.maker.specs.Result.{MadeFor};
-ghost use Rattle.maker.specs.Making.{fromOn, memberEntry, adds, passed, withLiterals, Passes};
+ghost use Rattle.maker.specs.Making.{fromOn, memberEntry, adds, passed, PassOf, Passes};
 use book::Book;
 use litset::LitSet;
 use sheet::Sheet;
@@ -133,11 +133,8 @@ fn put_shown<'a>(
 ) -> Grown
     requires { ⌜ (count ≤ maxRules)
         × (4 * (n + length (passed known (setOf (f .words)) 0 (rulesIn (now heads) (now starts) (now entries) count) (setOf (t .words)))) ≤ length (now fields)) ⌝ }
-    ensures { λ r. ⌜ (r .count ≡ n + length (passed known (setOf (f .words)) 0 (rulesIn (now (heads .entry)) (now (starts .entry)) (now (entries .entry)) count) (setOf (t .words))))
-        × (entriesIn (now (fields .exit)) (r .count)
-        ≡ entriesIn (now (fields .entry)) n ++ passed known (setOf (f .words)) 0 (rulesIn (now (heads .entry)) (now (starts .entry)) (now (entries .entry)) count) (setOf (t .words)))
-        × (setOf (r .truths .words)
-        ≡ withLiterals (passed known (setOf (f .words)) 0 (rulesIn (now (heads .entry)) (now (starts .entry)) (now (entries .entry)) count) (setOf (t .words))) (setOf (t .words))) ⌝ }
+    ensures { λ r. ⌜ PassOf (rulesIn (now (heads .entry)) (now (starts .entry)) (now (entries .entry)) count) known (setOf (f .words)) (setOf (t .words))
+        (now (fields .entry)) n (now (fields .exit)) r ⌝ }
 {
     let mut m = n;
     let mut truths = t;
@@ -207,6 +204,18 @@ fn is_claimed(t: LitSet, f: LitSet, literal: usize, truth: bool) -> bool
     litset::contains(f, literal)
 }
 
+// What is made, in a table.
+fn in_table(found: bool, count: usize, fields: [u16; sheet::MAX_FIELDS]) -> Made
+    ensures { λ r. ⌜ r ≡ record { found = found; count = count; sheet = record { fields = fields } } ⌝ }
+{
+    let sheet = Sheet { fields };
+    Made {
+        found,
+        count,
+        sheet,
+    }
+}
+
 // The sheet for a claim. Literals that are not known have no entries, so they count as facts in Γs: then a group follows whatever the book's bits are.
 pub fn make(book: Book, facts: LitSet, literal: usize, truth: bool) -> Made
     ensures { λ r. ⌜ MadeFor (rulesOf book) (setOf (facts .words)) (2 * length (namesOf book)) truth literal r ⌝ }
@@ -238,18 +247,10 @@ pub fn make(book: Book, facts: LitSet, literal: usize, truth: bool) -> Made
         n = s.count;
         t = s.truths;
         if is_claimed(t, f, literal, truth) {
-            return Made {
-                found: true,
-                count: n,
-                sheet: Sheet { fields },
-            };
+            return in_table(true, n, fields);
         }
         if n == m {
-            return Made {
-                found: false,
-                count: n,
-                sheet: Sheet { fields },
-            };
+            return in_table(false, n, fields);
         }
     }
 }

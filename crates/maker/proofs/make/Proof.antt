@@ -203,20 +203,31 @@ put-truths-requires c κs =
 is-claimed-requires : tie.Need-is-claimed-requires Inv-loop μ-loop
 is-claimed-requires c κs = search needs
 
+in-table-requires : tie.Need-in-table-requires Inv-loop μ-loop
+in-table-requires c κs = search needs
+
 returns : tie.Need-returns Inv-loop μ-loop
 returns c =
-    let truths = c .before .before .before .before in
+    let claimed = c .before .before in
+    let truths = claimed .before .before .before in
     let from = from (at-group (at-union truths)) in
-    made-found (rules from) (facts from) (known from) _ (known-is from) (few from) (facts-room from) (small from) (truths .put-truths .last .1 .1 .1 .1 .0) (truths .put-truths .result .count) (shown-too truths) (rules-are from) (known-is from) _ _ (sym (c .before .is-claimed .ensures) ∙ c .if1 .taken)
+    rw (c .in-table .ensures)
+    (made-found (rules from) (facts from) (known from) _ (known-is from) (few from) (facts-room from) (small from) (truths .put-truths .last .1 .1 .1 .1 .0) (truths .put-truths .result .count) (shown-too truths) (rules-are from) (known-is from) _ _ (sym (claimed .is-claimed .ensures) ∙ c .before .if1 .taken))
+
+in-table-requires-2 : tie.Need-in-table-requires-2 Inv-loop μ-loop
+in-table-requires-2 c κs = search needs
 
 returns-2 : tie.Need-returns-2 Inv-loop μ-loop
 returns-2 c =
-    let truths = c .before .before .before .before .before in
+    let last = c .before in
+    let claimed = last .before .before in
+    let truths = claimed .before .before .before in
     let union = at-union truths in
     let group = at-group union in
     let from = from group in
-    let passes = truths .put-truths .ensures in
-    made-none (rules from) (facts from) (known from) _ (known-is from) (few from) (facts-room from) (small from) (truths .put-truths .last .1 .1 .1 .1 .0) (truths .put-truths .result .count) (shown-too truths) (rules-are from) (known-is from) _ _ (rw (← none-added truths (c .if2 .taken)) (group-covers (rules from) (facts from) (known from) _ (known-is from) (few from) (facts-room from) (small from) (at group .loop .inv .1) (underived group) (from .before .from .ensures) (group-is group) (union .union2 .ensures))) (passes .1) (sym (c .before .before .is-claimed .ensures) ∙ c .before .if1 .left)
+    let covers = group-covers (rules from) (facts from) (known from) _ (known-is from) (few from) (facts-room from) (small from) (at group .loop .inv .1) (underived group) (from .before .from .ensures) (group-is group) (union .union2 .ensures) in
+    rw (c .in-table2 .ensures)
+    (made-none (rules from) (facts from) (known from) _ (known-is from) (few from) (facts-room from) (small from) (truths .put-truths .last .1 .1 .1 .1 .0) (truths .put-truths .result .count) (shown-too truths) (rules-are from) (known-is from) _ _ (rw (← none-added truths (last .if2 .taken)) covers) (truths .put-truths .ensures .1) (sym (claimed .is-claimed .ensures) ∙ last .before .if1 .left))
 
 loop-less : tie.Need-loop-less Inv-loop μ-loop
 loop-less c =
@@ -255,7 +266,9 @@ make-spec =
     slice-aggregate-put-truths
     put-truths-requires
     is-claimed-requires
+    in-table-requires
     returns
+    in-table-requires-2
     returns-2
     loop-less
     loop-again)

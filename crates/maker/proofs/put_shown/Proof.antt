@@ -84,7 +84,7 @@ same-length : tie.Need-same-length Inv-loop μ-loop
 same-length c = search needs
 
 returns : tie.Need-returns Inv-loop μ-loop
-returns c = passing-end (c .before .loop .inv) (c .loop-test .left) refl
+returns c = let end = passing-end (c .before .loop .inv) (c .loop-test .left) refl in record { count = end .0; entries = end .1; truths = end .2 }
 
 pub put-shown-spec : {M : Type 1} → statement M
 put-shown-spec =

@@ -34,19 +34,19 @@ returns : tie.Need-returns Inv-loop μ-loop
 returns c =
     let at = at-pass (c .before) in
     let said = at .put-shown .ensures in
-    grew-last (at-start at .pre .1) (at .before .before .loop .inv) _ (said .0) (said .1) (said .2) (c .before .before .before .fields .given) (c .if1 .taken)
+    grew-last (at-start at .pre .1) (at .before .before .loop .inv) _ (said .count) (said .entries) (said .truths) (c .before .before .before .fields .given) (c .if1 .taken)
 
 loop-less : tie.Need-loop-less Inv-loop μ-loop
 loop-less c =
     let at = at-pass (c .before .before) in
     let said = at .put-shown .ensures in
-    grew-fewer (at-start at .pre .1) (at .before .before .loop .inv) _ (said .0) (said .1) (said .2) (c .before .before .before .before .fields .given) (c .before .if1 .left)
+    grew-fewer (at-start at .pre .1) (at .before .before .loop .inv) _ (said .count) (said .entries) (said .truths) (c .before .before .before .before .fields .given) (c .before .if1 .left)
 
 loop-again : tie.Need-loop-again Inv-loop μ-loop
 loop-again c =
     let at = at-pass (c .before .before) in
     let said = at .put-shown .ensures in
-    grew-more (at-start at .pre .1) (at .before .before .loop .inv) _ (said .0) (said .1) (said .2) (c .before .before .before .before .fields .given)
+    grew-more (at-start at .pre .1) (at .before .before .loop .inv) _ (said .count) (said .entries) (said .truths) (c .before .before .before .before .fields .given)
 
 pub put-truths-spec : {M : Type 1} → statement M
 put-truths-spec =
