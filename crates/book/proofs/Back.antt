@@ -5,7 +5,7 @@ use mathlib.Core.List.Memᴰ
 use mathlib.Core.List.{List, [], ◌∷◌, ◌++◌, map, append_assoc}
 use Prim.Native.Nat.{ℕ, zero, suc, ◌+◌, ◌-◌, ◌*◌, ◌/◌, ◌%◌, ◌≤◌, ◌<◌}
 use native.Mathlib.Omega.{arith}
-use native.Mathlib.Nat.{mod-eq_of_lt, zero_add, suc-add, add-suc, add-zero, sub-zero}
+use native.Mathlib.Nat.{mod-eq_of_lt, zero-add, suc-add, add-suc, add-zero, sub-zero}
 use native.Mathlib.Numerals.{add-one}
 use lib.ListN.{length, get_or, take, drop, replicate, length-map, get_or-append, get_or-map}
 use lib.Seq.{take-append_seam, drop-append-add}
@@ -50,7 +50,7 @@ get_d_in (x ∷ xs) (suc k) d h = Memᴰ.tail (get_d_in xs k d (omega arith))
 
 pub names_back : (names : List (List ℕ)) → ((n : List ℕ) → n is_in names → length n ≤ max_length) → length names ≤ max_names
     → names_in (text_table names) (length_table names) (length names) ≡ names
-names_back names short few = rows_from (name_at (text_table names) (length_table names)) [] 0 names (λ k h. ap (name_at (text_table names) (length_table names)) (zero_add k) ∙ at k h)
+names_back names short few = rows_from (name_at (text_table names) (length_table names)) [] 0 names (λ k h. ap (name_at (text_table names) (length_table names)) (zero-add k) ∙ at k h)
   where
     stored : (k : ℕ) → k < length names → clamp max_length (get_or (length_table names) k 0) ≡ length (get_or names k [])
     stored k h =
@@ -114,7 +114,7 @@ pub record Storable (rules : List Rule) : Type 0 where
 pub rules_back : (rules : List Rule) → Storable rules → length rules ≤ max_rules
     → rules_in (head_table rules) (start_table rules) (entry_table rules) (length rules) ≡ rules
 rules_back rules s few =
-    rows_from (rule_at (head_table rules) (start_table rules) (entry_table rules)) none 0 rules (λ k h. ap (rule_at (head_table rules) (start_table rules) (entry_table rules)) (zero_add k) ∙ at k h)
+    rows_from (rule_at (head_table rules) (start_table rules) (entry_table rules)) none 0 rules (λ k h. ap (rule_at (head_table rules) (start_table rules) (entry_table rules)) (zero-add k) ∙ at k h)
   where
     none : Rule
     none = record { head = 0; body = [] }

@@ -3,7 +3,7 @@
 use mathlib.Core.Path.{◌≡◌, ap, ◌∙◌}
 use mathlib.Core.List.{List, []}
 use Prim.Native.Nat.{ℕ, ◌*◌, ◌≤◌, ◌<◌}
-use native.Mathlib.Nat.{zero_add}
+use native.Mathlib.Nat.{zero-add}
 use native.Mathlib.Decide.{dec_lt}
 use native.Mathlib.Omega.{arith}
 use lib.ListN.{length, get_or, drop, length-take, get_or-eq_default}
@@ -26,7 +26,7 @@ module _ (text lengths : List ℕ) where
   -- past the names stands the empty name
   module _ (n k : ℕ) where
     pub name_in_lem : k < n → get_or (names_in text lengths n) k [] ≡ name_at text lengths k
-    name_in_lem h = row_at (name_at text lengths) [] 0 n k h ∙ ap (name_at text lengths) (zero_add k)
+    name_in_lem h = row_at (name_at text lengths) [] 0 n k h ∙ ap (name_at text lengths) (zero-add k)
 
     pub name_out : n ≤ k → get_or (names_in text lengths n) k [] ≡ []
     name_out h = get_or-eq_default (names_in text lengths n) [] (rw (names_count n) h)

@@ -6,7 +6,7 @@ use mathlib.Core.Bool.{Bool, true, false, cond}
 use mathlib.Core.List.Memᴰ
 use mathlib.Core.List.{List, [], ◌∷◌, ◌++◌, append_assoc}
 use Prim.Native.Nat.{ℕ, zero, suc, ◌+◌, ◌*◌, ◌≤◌, ◌<◌}
-use native.Mathlib.Nat.{add-zero, zero_add}
+use native.Mathlib.Nat.{add-zero, zero-add}
 use native.Mathlib.Numerals.{add-one}
 use native.Mathlib.Omega.{arith}
 use lib.Dec.{ltb}
@@ -191,7 +191,7 @@ module _ (names : List (List ℕ)) (a : AllPlain names) (rules facts k : ℕ) (w
     -- line i + 1 has name i, behind whichever header
     pub line_fields : (i : ℕ) → i < length names
         → fields (get_or (lines_of (listing_by names rules facts k w c)) (i + 1) []) ≡ digits i ∷ get_or names i [] ∷ verdict_fields w i
-    line_fields i h = rw (listing_lines, add-one i) (rw (zero_add i) at (bodies_fields w words 0 names a i h))
+    line_fields i h = rw (listing_lines, add-one i) (rw (zero-add i) at (bodies_fields w words 0 names a i h))
 
     -- both headers have the rounds behind the count of facts
     pub rounds_in_header : field_at (listing_by names rules facts k w c) 0 4 ≡ digits k

@@ -2,7 +2,7 @@
 use mathlib.Core.Path.{◌≡◌, sym, ap, ◌∙◌}
 use mathlib.Core.List.{List, [], ◌∷◌, ◌++◌}
 use Prim.Native.Nat.{ℕ, ◌+◌, ◌*◌, ◌≤◌, ◌<◌}
-use native.Mathlib.Nat.{zero_add}
+use native.Mathlib.Nat.{zero-add}
 use native.Mathlib.Decide.{dec_lt}
 use native.Mathlib.Omega.{arith}
 use lib.ListN.{length, get_or, set, length-append, length-set, get_or-append}
@@ -84,7 +84,7 @@ module _ {names : List (List ℕ)} {keys : List ℕ} {key : Key} {n : List ℕ} 
         short = each (λ j m. length m ≤ max_length) t.short brief;
         own_place =
             each (λ j m. find EitherCase (names ++ (n ∷ [])) m ≡ At j) (λ j l. find_kept EitherCase (get_or names j []) 0 j names (n ∷ []) (t.own_place j l))
-            (find_joined EitherCase n 0 names new ∙ ap At (zero_add (length names) ∙ sym last));
+            (find_joined EitherCase n 0 names new ∙ ap At (zero-add (length names) ∙ sym last));
       }
 
   pub keyed_more : Keyed (names ++ (n ∷ [])) (put_key keys k key)

@@ -2,7 +2,7 @@
 use mathlib.Core.Path.{◌≡◌, sym, ◌∙◌, ap}
 use mathlib.Core.List.{List, [], ◌∷◌, ◌++◌}
 use Prim.Native.Nat.{ℕ, suc, ◌+◌, ◌*◌, ◌≤◌, ◌<◌}
-use native.Mathlib.Nat.{zero_add}
+use native.Mathlib.Nat.{zero-add}
 use native.Mathlib.Numerals.{add-one}
 use native.Mathlib.Omega.{arith}
 use lib.ListN.{length, get_or, set, take, drop, length-replicate, length-append, length-drop}
@@ -52,7 +52,7 @@ module _ (fields : List ℕ) (es : List SheetEntry) where
       ap (λ (l : List SheetEntry). set (entries_in fields i ++ l) i (entry_in fields i)) (drop-cons es i zeros inside)
       ∙ set_at (entries_in fields i) (get_or es i zeros) (drop (suc i) es) (entry_in fields i) i (rows_length (entry_in fields) 0 i)
       ∙ sym (append_snoc (entries_in fields i) (entry_in fields i) (drop (suc i) es))
-      ∙ ap (λ (k : ℕ). (entries_in fields i ++ (entry_in fields k ∷ [])) ++ drop (suc i) es) (sym (zero_add i))
+      ∙ ap (λ (k : ℕ). (entries_in fields i ++ (entry_in fields k ∷ [])) ++ drop (suc i) es) (sym (zero-add i))
       ∙ ap (λ (l : List SheetEntry). l ++ drop (suc i) es) (sym (rows_last (entry_in fields) 0 i)) ∙ ap (λ (k : ℕ). entries_in fields (i + 1) ++ drop k es) (sym (add-one i))
 
   pub over_length : (i : ℕ) → i ≤ length es → length (over i) ≡ length es

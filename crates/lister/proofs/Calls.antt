@@ -4,7 +4,7 @@ use mathlib.Core.Path.{◌≡◌, refl, ap, ◌∙◌, sym}
 use mathlib.Core.Bool.{Bool, true, false, cond}
 use mathlib.Core.List.{List, ◌++◌}
 use Prim.Native.Nat.{ℕ, ◌≤◌, ◌<◌}
-use native.Mathlib.Nat.{zero_add}
+use native.Mathlib.Nat.{zero-add}
 use native.Mathlib.Omega.{arith}
 use lib.Dec.{leb}
 use lib.ListN.{length, drop}
@@ -16,7 +16,7 @@ use Rattle.lister.specs.Steps.{Put}
 use Rattle.lister.proofs.Stored.{put_whole}
 
 size : {bytes t u : List ℕ} {n : ℕ} → Put bytes 0 t u n → n ≡ length bytes
-size {bytes} tried = tried.place ∙ zero_add (length bytes)
+size {bytes} tried = tried.place ∙ zero-add (length bytes)
 
 module _ {bytes t u before : List ℕ} {n : ℕ} (tried : Put bytes 0 t u n) where
   pub writes_short : length before < n → Writes bytes before Short before

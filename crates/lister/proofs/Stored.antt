@@ -3,7 +3,7 @@
 use mathlib.Core.Path.{◌≡◌, refl, sym, ap, ◌∙◌}
 use mathlib.Core.List.{List, [], ◌∷◌, ◌++◌}
 use Prim.Native.Nat.{ℕ, ◌+◌, ◌≤◌}
-use native.Mathlib.Nat.{add-zero, zero_add}
+use native.Mathlib.Nat.{add-zero, zero-add}
 use native.Mathlib.Omega.{arith}
 use lib.ListN.{length, drop, set, length-append}
 use lib.Seq.{sets, sets-eq, length-sets}
@@ -25,7 +25,7 @@ put_length {a} {t} {u} {at} {p} x = ap length x.stored ∙ length-sets t at a
 
 -- bytes that fit, stored from the start on
 pub put_whole : {a t u : List ℕ} {p : ℕ} → Put a 0 t u p → length a ≤ length t → u ≡ a ++ drop (length a) t
-put_whole {a} {t} {u} {p} x h = x.stored ∙ sets-eq a t 0 (omega arith) ∙ ap (λ (k : ℕ). a ++ drop k t) (zero_add (length a))
+put_whole {a} {t} {u} {p} x h = x.stored ∙ sets-eq a t 0 (omega arith) ∙ ap (λ (k : ℕ). a ++ drop k t) (zero-add (length a))
 
 pub put_run : (a : List ℕ) {t u : List ℕ} {at : ℕ} → u ≡ sets t at a → Put a at t u (at + length a)
 put_run a e = record { place = refl; stored = e }

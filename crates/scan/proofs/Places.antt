@@ -3,7 +3,7 @@ use mathlib.Core.Path.{◌≡◌, refl, sym, ap, ◌∙◌}
 use mathlib.Core.Bool.{Bool, true, false, cond}
 use mathlib.Core.List.{List, [], ◌∷◌}
 use Prim.Native.Nat.{ℕ, zero, suc, ◌+◌, ◌-◌, ◌≤◌, ◌<◌, zero-le, suc-le-suc}
-use native.Mathlib.Nat.{not-suc-le-zero, le_of_suc-le-suc, zero_add, suc-add}
+use native.Mathlib.Nat.{not-suc-le-zero, le_of_suc-le-suc, zero-add, suc-add}
 use native.Mathlib.Omega.{arith}
 use native.Mathlib.Numerals.{add-one}
 use lib.ListN.{length, get_or, take, drop, length-drop, drop_of_length-le}
@@ -100,7 +100,7 @@ split_first stop [] = refl
 split_first stop (x ∷ xs) = split_tail stop x xs (eqb x stop) refl (split_first stop xs)
 
 rest_drop : (stop : ℕ) (l : List ℕ) (p q : ℕ) → p ≤ length l → rest stop (drop p l) q ≡ rest stop l (p + q)
-rest_drop stop l zero q h = rw (zero_add q)
+rest_drop stop l zero q h = rw (zero-add q)
 rest_drop stop [] (suc p) q h = absurd (omega arith)
 rest_drop stop (x ∷ xs) (suc p) q h =
     rest_drop stop xs p q (le_of_suc-le-suc h) ∙ sym (rest_suc stop x xs (p + q)) ∙ ap (rest stop (x ∷ xs)) (sym (suc-add p q))

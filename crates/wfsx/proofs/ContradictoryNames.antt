@@ -33,6 +33,7 @@ some_elim f (r ∷ P) h = go (or_elim (f r.head) (some_head f P) h) (some_elim f
 
 some_intro : (f : ℕ → Bool) (P : Program) (A : ℕ) → A is_in heads P → f A ≡ true → some_head f P ≡ true
 unfolding some_head
+some_intro f [] A x'' h = elim x'' [ ]
 some_intro f (r ∷ P) A (Memᴰ.head e) h = or_l (f r.head) _ (rw e at h)
 some_intro f (r ∷ P) A (Memᴰ.tail m) h = or_r (f r.head) _ (some_intro f P A m h)
 

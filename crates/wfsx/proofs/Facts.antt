@@ -15,6 +15,7 @@ use Rattle.wfsx.proofs.Supported.{heads, supported_head, supported_append}
 
 fact_supported : (l : List ℕ) (f : Entry → Bool) (A : ℕ) → A is_in l → A ∈ supported (map fact l) f
 unfolding supported every
+fact_supported [] f A x' = elim x' [ ]
 fact_supported (x ∷ l) f A (Memᴰ.head e) = or_l (eqb x A && true) _ (rw (eq-eqb x A (sym e)) refl)
 fact_supported (x ∷ l) f A (Memᴰ.tail m) = or_r (eqb x A && true) _ (fact_supported l f A m)
 

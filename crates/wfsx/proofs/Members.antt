@@ -6,7 +6,7 @@ use mathlib.Core.List.Memᴰ
 use mathlib.Core.List.{List, [], ◌∷◌, ◌++◌}
 use Prim.Native.Nat.{ℕ, zero, suc, ◌+◌, ◌≤◌, ◌<◌}
 use native.Mathlib.Omega.{arith}
-use native.Mathlib.Nat.{zero-lt-suc, zero_add, add-zero, suc-add}
+use native.Mathlib.Nat.{zero-lt-suc, zero-add, add-zero, suc-add}
 use native.Mathlib.Decide.{ℕ_discrete}
 use lib.Dec.{eqb}
 use lib.ListN.{length, get_or}
@@ -96,7 +96,7 @@ length_most S b (suc n) = omega (arith, length_first S b n, one_most (S b), leng
 
 pub length_parts : (S : Set) (b m n : ℕ) → length (members_from S b (m + n)) ≡ length (members_from S b m) + length (members_from S (b + m) n)
 unfolding members_from
-length_parts S b zero n = simp (zero_add, add-zero)
+length_parts S b zero n = simp (zero-add, add-zero)
 length_parts S b (suc m) n =
     let turn : suc b + m ≡ b + suc m = omega arith in
     omega (

@@ -225,6 +225,7 @@ module _ (P : Program) (n : ℕ) where
 
   listed_has : (ks : List ℕ) (listed : Set) (i : ℕ) → i is_in ks → (j : ℕ) → j ∈ group P i → j ∈ listed_by listed ks
   unfolding listed_by
+  listed_has [] listed i x'' j h = elim x'' [ ]
   listed_has (k ∷ ks) listed i (Memᴰ.head e) j h = listed_keeps ks (listed ∪ group P k) j (or_r (listed j) _ (rw e at h))
   listed_has (k ∷ ks) listed i (Memᴰ.tail m) j h = listed_has ks (listed ∪ group P k) i m j h
 

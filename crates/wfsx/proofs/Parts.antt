@@ -20,6 +20,7 @@ use Rattle.wfsx.proofs.Operators.{Γ-fixed, Γ-inside, Γs-is}
 
 pub without_intro : (B : Set) (P : Program) (r : Rule) → r is_in P → r.head ∉ B → r is_in without_heads B P
 unfolding without_heads
+without_intro B [] r x'' h = elim x'' [ ]
 without_intro B (q ∷ P) r (Memᴰ.head e) h = rw (rw e at h) (Memᴰ.head e)
 without_intro B (q ∷ P) r (Memᴰ.tail m) h = go (B q.head) (without_intro B P r m h)
   where

@@ -20,6 +20,7 @@ use Rattle.wfsx.proofs.Chain.{chain_ind, chain_stops}
 
 mentioned_intro : (es : List Entry) (e : Entry) → e is_in es → name_in e ∈ mentioned es
 unfolding mentioned
+mentioned_intro [] e x' = elim x' [ ]
 mentioned_intro (x ∷ es) e (Memᴰ.head q) = or_l (eqb (name_in e) (name_in x)) _ (eq-eqb _ _ (ap name_in q))
 mentioned_intro (x ∷ es) e (Memᴰ.tail m) = or_r (eqb (name_in e) (name_in x)) _ (mentioned_intro es e m)
 
@@ -42,6 +43,7 @@ mentioned_first e es = refl
 
 pub body_intro : (P : Program) (D : Set) (r : Rule) (e : Entry) → r is_in P → name_for r ∈ D → e is_in r.body → name_in e ∈ body_names P D
 unfolding body_names
+body_intro [] D r e x3 d m = elim x3 [ ]
 body_intro (q ∷ P) D r e (Memᴰ.head i) d m =
     or_l (D (name_for q) && mentioned q.body (name_in e)) _ (and_intro _ _ (rw i at d) (mentioned_intro q.body e (rw i at m)))
 body_intro (q ∷ P) D r e (Memᴰ.tail i) d m = or_r (D (name_for q) && mentioned q.body (name_in e)) _ (body_intro P D r e i d m)
@@ -77,6 +79,7 @@ entries_length (r ∷ P) = omega (arith, length-append (map name_in r.body) (men
 
 entries_in_lem : (P : Program) (r : Rule) (e : Entry) → r is_in P → e is_in r.body → name_in e is_in mentions P
 unfolding mentions
+entries_in_lem [] r e x'' m = elim x'' [ ]
 entries_in_lem (q ∷ P) r e (Memᴰ.head i) m = Memᴰ.append_left (mentions P) (Memᴰ.map name_in (rw i at m))
 entries_in_lem (q ∷ P) r e (Memᴰ.tail i) m = Memᴰ.append_right (map name_in q.body) (entries_in_lem P r e i m)
 

@@ -100,11 +100,13 @@ every_intro f (e ∷ es) h = and_intro (f e) (every f es) (h e (Memᴰ.head refl
 
 pub every_elim : (f : Entry → Bool) (es : List Entry) → every f es ≡ true → (e : Entry) → e is_in es → f e ≡ true
 unfolding every
+every_elim f [] h e x'' = elim x'' [ ]
 every_elim f (x ∷ es) h e (Memᴰ.head q) = ap f q ∙ and_l (f x) (every f es) h
 every_elim f (x ∷ es) h e (Memᴰ.tail m) = every_elim f es (and_r (f x) (every f es) h) e m
 
 pub supported_intro : (P : Program) (f : Entry → Bool) (r : Rule) → r is_in P → every f r.body ≡ true → r.head ∈ supported P f
 unfolding supported
+supported_intro [] f r x'' h = elim x'' [ ]
 supported_intro (q ∷ P) f r (Memᴰ.head e) h =
     or_l (eqb q.head r.head && every f q.body) (supported P f r.head)
     (and_intro _ _ (eq-eqb q.head r.head (ap (λ (x : Rule). x.head) (sym e))) (ap (λ (x : Rule). every f x.body) (sym e) ∙ h))
