@@ -1,1 +1,3 @@
 // Lists of calls on a state: definitions and theorems, no code.
+#![tactic(auto)]
+

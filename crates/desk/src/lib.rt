@@ -1,5 +1,7 @@
 // The desk: one book on its shelf and one lesson beside it, by value. The calls on its lesson are those of `lesson`; a load is the desk's own, since
 // it changes both. A list of calls on a desk is what the demands of document 01 are about (specs/Runs.antt).
+#![tactic(auto)]
+
 ghost use Rattle.desk.specs.Calls.{Begun, Fresh, Loads};
 
 use book::Book;
@@ -7,13 +9,13 @@ use lesson::{Lesson, Shelf};
 use reader::Answer;
 
 #[repr(C)]
-#[derive(Drop)]
+#[derive(Clone, Copy)]
 pub struct Desk {
     pub shelf: Shelf,
     pub lesson: Lesson,
 }
 
-#[derive(Drop)]
+#[derive(Clone, Copy)]
 pub struct LoadReply {
     pub answer: Answer,
     pub desk: Desk,

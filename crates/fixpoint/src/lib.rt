@@ -1,5 +1,7 @@
 // The model of a book and the facts put in: M, N, and the verdict of a literal; and the same for one group of names after others. A set grows by passes
 // over some of the rules until a pass adds nothing. A pass takes the literals whose rules are shut: none for Γ, the complements of S for Γs(S).
+#![tactic(auto)]
+
 ghost use Rattle.std.specs.Prelude.{◌≡◌, ◌≤◌, take};
 ghost use Rattle.wfsx.specs.Sets.{◌⊆◌};
 ghost use Rattle.wfsx.specs.Program.{without_heads};
@@ -14,7 +16,7 @@ ghost use Rattle.fixpoint.specs.Result.{ModelOf, StepOf, verdict_is, verdict_in}
 use book::{Book, Entry};
 use litset::LitSet;
 
-#[derive(Drop)]
+#[derive(Clone, Copy)]
 pub enum Verdict {
     True,
     False,
@@ -23,7 +25,7 @@ pub enum Verdict {
 
 // M, N, and the least k with I(k) = I(k + 1). The name that makes a program contradictory is read from M.
 #[repr(C)]
-#[derive(Drop)]
+#[derive(Clone, Copy)]
 pub struct Model {
     pub truths: LitSet,
     pub nonfalse: LitSet,
@@ -32,7 +34,7 @@ pub struct Model {
 
 // M and N, of the whole program or of some of its groups.
 #[repr(C)]
-#[derive(Drop)]
+#[derive(Clone, Copy)]
 pub struct Values {
     pub truths: LitSet,
     pub nonfalse: LitSet,

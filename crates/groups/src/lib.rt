@@ -1,5 +1,7 @@
 // The model of a book and the facts put in, worked out group by group in working order (document 02, A.5). A step sees the rules and the facts of its group and
 // M and N of the groups before, and nothing else.
+#![tactic(auto)]
+
 ghost use Rattle.std.specs.Prelude.{◌≡◌, ◌+◌, ◌-◌, ◌*◌, ◌≤◌, ◌<◌, length, get_or, drop};
 ghost use Rattle.litset.specs.Words.{set_of};
 ghost use Rattle.book.specs.Limits.{max_names, max_rules};

@@ -1,5 +1,7 @@
 // The names of a file while it is read: a key for each, and for a key the name to look at first. A name is looked up in a few steps, wherever it
 // was declared.
+#![tactic(auto)]
+
 ghost use Rattle.std.specs.Prelude.{◌≡◌, ◌≤◌, ◌<◌, get_or};
 ghost use Rattle.scan.specs.Keys.{same_key};
 ghost use Rattle.book.specs.Limits.{max_names};

@@ -1,5 +1,7 @@
 // The calls on a lesson: each is a function of the shelf with the book, of the lesson beside it and of its arguments, whatever their bits. A call that
 // changes the facts returns its answer and the lesson, and a refused one the lesson that it was given; a call that only reads returns its answer alone.
+#![tactic(auto)]
+
 ghost use Rattle.std.specs.Prelude.{◌≡◌, ◌*◌, ◌≤◌, ◌<◌, length};
 ghost use Rattle.sheet.specs.Flat.{entries_in};
 ghost use Rattle.litset.specs.Words.{capacity, set_of, clash_in};
@@ -19,7 +21,7 @@ use sheet::{Judgement, Sheet};
 
 // The book, or none: `loaded` 0 says that there is none.
 #[repr(C)]
-#[derive(Drop)]
+#[derive(Clone, Copy)]
 pub struct Shelf {
     pub loaded: u8,
     pub book: Book,
@@ -28,44 +30,44 @@ pub struct Shelf {
 // A lesson beside its book: the facts put in, and the marks of the book with the facts in force, which stand until another call changes the one or the
 // other.
 #[repr(C)]
-#[derive(Drop)]
+#[derive(Clone, Copy)]
 pub struct Lesson {
     pub facts: LitSet,
     pub marks: Marks,
 }
 
 // Putting in and taking out a literal.
-#[derive(Drop)]
+#[derive(Clone, Copy)]
 pub enum Change {
     PutIn(usize),
     TakeOut(usize),
 }
 
-#[derive(Drop)]
+#[derive(Clone, Copy)]
 pub enum ChangeAnswer {
     Done,
     Refused(u8),
 }
 
-#[derive(Drop)]
+#[derive(Clone, Copy)]
 pub struct ChangeReply {
     pub answer: ChangeAnswer,
     pub lesson: Lesson,
 }
 
-#[derive(Drop)]
+#[derive(Clone, Copy)]
 pub enum VerdictAnswer {
     Given(Verdict),
     Refused(u8),
 }
 
-#[derive(Drop)]
+#[derive(Clone, Copy)]
 pub enum SearchAnswer {
     Given(bool),
     Refused(u8),
 }
 
-#[derive(Drop)]
+#[derive(Clone, Copy)]
 pub enum ModelAnswer {
     Consistent,
     Contradictory,
@@ -73,46 +75,46 @@ pub enum ModelAnswer {
 }
 
 // M, N and the rounds. Where the call is refused the sets are empty and the rounds 0.
-#[derive(Drop)]
+#[derive(Clone, Copy)]
 pub struct ModelReply {
     pub answer: ModelAnswer,
     pub model: Model,
 }
 
-#[derive(Drop)]
+#[derive(Clone, Copy)]
 pub enum OrderAnswer {
     Given,
     Refused(u8),
 }
 
 // The names in working order. Where the call is refused there are none.
-#[derive(Drop)]
+#[derive(Clone, Copy)]
 pub struct OrderReply {
     pub answer: OrderAnswer,
     pub order: Order,
 }
 
 // M and N, worked out group by group. Where the call is refused they are empty.
-#[derive(Drop)]
+#[derive(Clone, Copy)]
 pub struct GroupsReply {
     pub answer: ModelAnswer,
     pub values: Values,
 }
 
-#[derive(Drop)]
+#[derive(Clone, Copy)]
 pub enum ListingAnswer {
     Length(usize),
     Refused(u8),
 }
 
-#[derive(Drop)]
+#[derive(Clone, Copy)]
 pub enum MakeAnswer {
     Written(usize),
     Refused(u8),
 }
 
 // A sheet in a table, and how many entries of it are to be written. Where the call is refused none is.
-#[derive(Drop)]
+#[derive(Clone, Copy)]
 pub struct MakeReply {
     pub answer: MakeAnswer,
     pub sheet: Sheet,

@@ -1,4 +1,6 @@
 // The bytes of the listing and of a refusal, written into a lent buffer.
+#![tactic(auto)]
+
 ghost use Rattle.std.specs.Prelude.{◌≡◌, [], ◌<◌, ◌≤◌, get_or};
 ghost use Rattle.book.specs.Limits.{max_names};
 ghost use Rattle.book.specs.Book.{name_at, names_in};
@@ -12,7 +14,7 @@ use fixpoint::{Model, Verdict};
 use litset::{Clash, LitSet};
 
 // What became of a buffer: the listing's length, or that the buffer is shorter than the listing.
-#[derive(Drop)]
+#[derive(Clone, Copy)]
 pub enum Written {
     Length(usize),
     Short,
@@ -20,14 +22,14 @@ pub enum Written {
 
 // What a listing shows of a lesson: its model, and the literals whose verdicts 24 would refuse.
 #[repr(C)]
-#[derive(Drop)]
+#[derive(Clone, Copy)]
 pub struct Marks {
     pub model: Model,
     pub contradictory: LitSet,
 }
 
 // The counts of a header.
-#[derive(Drop)]
+#[derive(Clone, Copy)]
 struct Counts {
     names: usize,
     rules: usize,

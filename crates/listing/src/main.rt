@@ -1,4 +1,6 @@
 // Reads a marking file on standard input and prints its listing, with no fact put in, or `refused,NUMBER,LINE`: a load and a listing on a fresh desk.
+#![tactic(auto)]
+
 ghost use Rattle.std.specs.Prelude.{◌≡◌, ◌≤◌, length, take};
 ghost use Rattle.scan.specs.declared.Alphabet.TheVariants.{EitherCase};
 ghost use Rattle.reader.specs.File.{read_file};

@@ -1,4 +1,6 @@
 // A set of literals by value: the words of a bit set. Every literal number is safe: past the end nothing is a member and nothing changes.
+#![tactic(auto)]
+
 ghost use Rattle.std.specs.Prelude.{◌≡◌, true, ◌↔◌, length, ◌<◌};
 ghost use Rattle.wfsx.specs.Sets.{∅, ◌∪◌, ◌∖◌, members};
 ghost use Rattle.wfsx.specs.Program.{compl, complements};
@@ -12,7 +14,7 @@ pub const WORDS: usize = 4;
 pub const CAPACITY: usize = 64 * WORDS;
 
 #[repr(C)]
-#[derive(Drop)]
+#[derive(Clone, Copy)]
 pub struct LitSet {
     pub words: [u64; WORDS],
 }
@@ -150,7 +152,7 @@ pub fn complements(s: LitSet) -> LitSet
 }
 
 // The lowest-numbered name that has both literals in a set, if any.
-#[derive(Drop)]
+#[derive(Clone, Copy)]
 pub enum Clash {
     None,
     Name(usize),

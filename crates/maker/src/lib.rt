@@ -1,5 +1,7 @@
 // The maker of proof sheets (document 02, A.3): for a claim that is so it writes a sheet that the check accepts. It goes in rounds. A round writes a group of
 // all known literals that nothing can derive over what is shown so far, and then "true" entries by passes over the rules, until a pass adds none.
+#![tactic(auto)]
+
 ghost use Rattle.std.specs.Prelude.{◌≡◌, cond, [], map, ◌++◌, ◌+◌, ◌*◌, ◌≤◌, ◌<◌, length};
 ghost use Rattle.wfsx.specs.Sets.{members};
 ghost use Rattle.litset.specs.Words.{capacity, set_of};
@@ -15,7 +17,7 @@ use litset::LitSet;
 use sheet::{Sheet, SheetEntry};
 
 // Whether a sheet was found for a claim, how many entries it has, and the sheet.
-#[derive(Drop)]
+#[derive(Clone, Copy)]
 pub struct Made {
     pub found: bool,
     pub count: usize,
@@ -111,7 +113,7 @@ fn rule_adds<'a>(
 }
 
 // How many entries there are, and the literals of the "true" ones.
-#[derive(Drop)]
+#[derive(Clone, Copy)]
 struct Grown {
     count: usize,
     truths: LitSet,

@@ -1,5 +1,7 @@
 // The calls of a desk for Rust and C, and sizing, which has no desk: structs by value, slices as pointer and length, answers as numbers. Each call answers
 // what the call of `desk`, `lesson` or `reader` answers, in document 01's numbers; 0 says that it was not turned down.
+#![tactic(auto)]
+
 ghost use Rattle.std.specs.Prelude.{◌≡◌, min};
 ghost use Rattle.sheet.specs.Sheet.{max_sheet};
 ghost use Rattle.sheet.specs.Flat.{entries_in};
@@ -25,7 +27,7 @@ use search::Tree;
 use sheet::{Judgement, Sheet, SheetEntry};
 
 #[repr(C)]
-#[derive(Drop)]
+#[derive(Clone, Copy)]
 pub struct SizeReply {
     pub number: u8,
     pub line: usize,
@@ -35,7 +37,7 @@ pub struct SizeReply {
 }
 
 #[repr(C)]
-#[derive(Drop)]
+#[derive(Clone, Copy)]
 pub struct LoadReply {
     pub number: u8,
     pub line: usize,
@@ -43,28 +45,28 @@ pub struct LoadReply {
 }
 
 #[repr(C)]
-#[derive(Drop)]
+#[derive(Clone, Copy)]
 pub struct ChangeReply {
     pub number: u8,
     pub desk: Desk,
 }
 
 #[repr(C)]
-#[derive(Drop)]
+#[derive(Clone, Copy)]
 pub struct VerdictReply {
     pub number: u8,
     pub verdict: u8,
 }
 
 #[repr(C)]
-#[derive(Drop)]
+#[derive(Clone, Copy)]
 pub struct SearchReply {
     pub number: u8,
     pub holds: u8,
 }
 
 #[repr(C)]
-#[derive(Drop)]
+#[derive(Clone, Copy)]
 pub struct ModelReply {
     pub number: u8,
     pub contradictory: u8,
@@ -74,14 +76,14 @@ pub struct ModelReply {
 }
 
 #[repr(C)]
-#[derive(Drop)]
+#[derive(Clone, Copy)]
 pub struct OrderReply {
     pub number: u8,
     pub order: Order,
 }
 
 #[repr(C)]
-#[derive(Drop)]
+#[derive(Clone, Copy)]
 pub struct GroupsReply {
     pub number: u8,
     pub contradictory: u8,
@@ -90,21 +92,21 @@ pub struct GroupsReply {
 }
 
 #[repr(C)]
-#[derive(Drop)]
+#[derive(Clone, Copy)]
 pub struct ListingReply {
     pub number: u8,
     pub length: usize,
 }
 
 #[repr(C)]
-#[derive(Drop)]
+#[derive(Clone, Copy)]
 pub struct CheckReply {
     pub number: u8,
     pub index: usize,
 }
 
 #[repr(C)]
-#[derive(Drop)]
+#[derive(Clone, Copy)]
 pub struct MakeReply {
     pub number: u8,
     pub count: usize,
@@ -465,7 +467,7 @@ fn make_reply(a: MakeAnswer) -> MakeReply
 }
 
 // A reply's numbers, and the sheet whose first entries it counts.
-#[derive(Drop)]
+#[derive(Clone, Copy)]
 struct SheetMade {
     number: u8,
     count: usize,

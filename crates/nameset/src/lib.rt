@@ -1,5 +1,7 @@
 // A set of names by value: the words of a bit set with a bit for each name whose literals a set of literals has room for. It has half as many words as such a
 // set, so what goes over all words takes half as long.
+#![tactic(auto)]
+
 ghost use Rattle.std.specs.Prelude.{◌≡◌, true, ◌↔◌};
 ghost use Rattle.std.specs.Int.Bits.{bit_or, bit_xor};
 ghost use Rattle.wfsx.specs.Sets.{∅, ◌∪◌, ◌∖◌};
@@ -13,7 +15,7 @@ pub const WORDS: usize = litset::WORDS / 2;
 pub const NAMES: usize = 64 * WORDS;
 
 #[repr(C)]
-#[derive(Drop)]
+#[derive(Clone, Copy)]
 pub struct NameSet {
     pub words: [u64; WORDS],
 }
@@ -104,7 +106,7 @@ pub fn equal(a: NameSet, b: NameSet) -> bool
 }
 
 // The lowest-numbered name of a set, if any.
-#[derive(Drop)]
+#[derive(Clone, Copy)]
 pub enum Lowest {
     None,
     Name(usize),

@@ -1,6 +1,8 @@
 // What the names of a book reach: their working order, group by group the lowest name whose group waits for no other, and the names that reach one
 // with both literals in a set. A set of names is a set of literals that has both literals of each name, and a table of what each name reaches has such a
 // set as words for each name.
+#![tactic(auto)]
+
 ghost use Rattle.std.specs.Prelude.{◌≡◌, ◌≤◌, ◌<◌, length};
 ghost use Rattle.wfsx.specs.Sets.{∅, ◌∪◌};
 ghost use Rattle.wfsx.specs.Reach.{name_of, name_in, mentioned, literals_of};
@@ -26,7 +28,7 @@ const TABLE: usize = WORDS * NAMES;
 
 // Place p has the name with the number name[p], of the group with the number group[p]; groups count from 0. Places past the names are 0.
 #[repr(C)]
-#[derive(Drop)]
+#[derive(Clone, Copy)]
 pub struct Order {
     pub names: usize,
     pub groups: usize,
@@ -362,7 +364,7 @@ fn meet(table: &[u64], among: LitSet, k: usize) -> LitSet
 }
 
 // The group that comes next, empty where there is none, and names known to wait.
-#[derive(Drop)]
+#[derive(Clone, Copy)]
 struct NextGroup {
     group: LitSet,
     stuck: LitSet,

@@ -1,4 +1,6 @@
 // A marking file of whatever bytes becomes a book, or is refused under its number and line. Sizing reads it the same way and stores no book.
+#![tactic(auto)]
+
 ghost use Rattle.std.specs.Prelude.{◌≡◌, false, not, List, [], ◌∷◌, ℕ, ◌+◌, ◌≤◌, length};
 ghost use Rattle.scan.specs.Text.{newline, comma, split, rest, fields};
 ghost use Rattle.scan.specs.declared.Word.TheVariants.{Name, Rule as RuleWord};
@@ -17,7 +19,7 @@ use scan::{Alphabet, Form, Word};
 const MAX_BYTES: usize = 60000;
 
 // How much has been read: names, rules, body literals, and whether `end` came.
-#[derive(Drop)]
+#[derive(Clone, Copy)]
 struct Counts {
     names: usize,
     rules: usize,
@@ -26,14 +28,14 @@ struct Counts {
 }
 
 // A line without a fault, with the counts behind it, or its fault.
-#[derive(Drop)]
+#[derive(Clone, Copy)]
 enum LineAnswer {
     Fine(Counts),
     Fault(u8),
 }
 
 // A file without a fault, with the counts of what it says, or its fault and the line of it.
-#[derive(Drop)]
+#[derive(Clone, Copy)]
 enum FileAnswer {
     Fine(Counts),
     Fault { number: u8, line: usize },
@@ -112,7 +114,7 @@ fn well_formed(rule: &[u8]) -> bool
 }
 
 // A field's name looked up: its literal, and how many `~` stand before it.
-#[derive(Drop)]
+#[derive(Clone, Copy)]
 enum Known {
     Undeclared,
     Entry { literal: usize, tildes: usize },
@@ -369,14 +371,14 @@ fn read_file(
 
 // ---- loading
 
-#[derive(Drop)]
+#[derive(Clone, Copy)]
 pub enum Answer {
     Accepted,
     Refused { number: u8, line: usize },
 }
 
 // The answer beside the book.
-#[derive(Drop)]
+#[derive(Clone, Copy)]
 pub struct Loaded {
     pub answer: Answer,
     pub book: Book,
@@ -445,7 +447,7 @@ pub fn read(file: &[u8]) -> Loaded
 // ---- sizing
 
 // What a file fills of each table, or the refusal that loading gives.
-#[derive(Drop)]
+#[derive(Clone, Copy)]
 pub enum SizeAnswer {
     Accepted {
         names: usize,

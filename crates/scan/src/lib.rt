@@ -1,4 +1,6 @@
 // Bytes, names and fields of a marking file.
+#![tactic(auto)]
+
 ghost use Rattle.std.specs.Prelude.{◌≡◌, ◌+◌, ◌≤◌, length, drop};
 ghost use Rattle.scan.specs.Text.{is_text, class_of, is_letter, counts_as, in_name, all_bytes, split, len_to, max_length, is_name, same_bytes, word_of, lead, tildes, minuses, form_of};
 ghost use Rattle.scan.specs.Keys.{in_word, Bytes, word_from, key_of, same_key};
@@ -8,7 +10,7 @@ ghost use Rattle.scan.specs.declared.Alphabet.TheVariants.{EitherCase};
 pub const MAX_LENGTH: usize = 16;
 
 // What a byte may be in a name.
-#[derive(Drop)]
+#[derive(Clone, Copy)]
 pub enum Class {
     Letter,
     Capital,
@@ -138,7 +140,7 @@ pub fn pieces(s: &[u8], stop: u8) -> usize
 // ---- keys: names are compared by them
 
 // How letters count where bytes are compared: as they are spelled, as in the first field of a line, or capitals as small letters, as in a name.
-#[derive(Drop)]
+#[derive(Clone, Copy)]
 pub enum Alphabet {
     SmallOnly,
     EitherCase,
@@ -190,7 +192,7 @@ fn word_from(s: &[u8], from: usize, alphabet: Alphabet) -> u64
 }
 
 // How many bytes there are, and the first 16 of them as they count: two names are the same exactly where their keys are.
-#[derive(Drop)]
+#[derive(Clone, Copy)]
 pub struct Key {
     pub length: usize,
     pub first: u64,
@@ -231,7 +233,7 @@ fn spells(s: &[u8], word: &[u8]) -> bool
 }
 
 // The first field of a line.
-#[derive(Drop)]
+#[derive(Clone, Copy)]
 pub enum Word {
     Name,
     Rule,
@@ -267,7 +269,7 @@ fn skip(s: &[u8], at: usize, b: u8) -> usize
 }
 
 // How many `~` and how many `-` stand before a literal's name.
-#[derive(Drop)]
+#[derive(Clone, Copy)]
 pub struct Marks {
     pub tildes: usize,
     pub minuses: usize,
@@ -286,7 +288,7 @@ pub fn marks_of(f: &[u8]) -> Marks
 }
 
 // A field of a rule reads as a literal, or is malformed.
-#[derive(Drop)]
+#[derive(Clone, Copy)]
 pub enum Form {
     Malformed,
     Literal { tildes: usize, minuses: usize },

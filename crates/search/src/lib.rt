@@ -1,6 +1,8 @@
 // The search of a question through its pruned trees. Ancestors are marks in two lent tables, set on the way down and taken off on the way
 // up. The same tables keep, for one search, what the trees answer for a literal, so that no tree is walked again for nothing. Neither M nor
 // N is read.
+#![tactic(auto)]
+
 ghost use Rattle.std.specs.Prelude.{◌≡◌, ◌||◌, ◌<◌, ◌≤◌, length};
 ghost use Rattle.wfsx.specs.Sets.{∅};
 ghost use Rattle.wfsx.specs.Model.{every, head_count};
@@ -16,14 +18,14 @@ ghost use Rattle.search.specs.Walk.{program_by, rule_in, head_in, state, Ready, 
 use book::{Book, Entry};
 use litset::LitSet;
 
-#[derive(Drop)]
+#[derive(Clone, Copy)]
 pub enum Tree {
     T,
     Tu,
 }
 
 // What a visit finds: that the literal holds, that it fails, or that a TU-tree waits for a T-tree for another literal.
-#[derive(Drop)]
+#[derive(Clone, Copy)]
 enum Finding {
     Holds,
     Fails,
@@ -56,7 +58,7 @@ pub fn search(book: Book, facts: LitSet, literal: usize, default: bool, tree: Tr
 }
 
 // An answer, and how many nodes asked their rules for it.
-#[derive(Drop)]
+#[derive(Clone, Copy)]
 pub struct Counted {
     pub holds: bool,
     pub visits: usize,

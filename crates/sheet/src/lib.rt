@@ -1,4 +1,6 @@
 // Proof sheets (document 02, A.3): the reasons for a mark as a run of entries, and the check of such a run. A sheet is read from a flat table.
+#![tactic(auto)]
+
 ghost use Rattle.std.specs.Prelude.{◌≡◌, ◌&&◌, ◌*◌, ◌≤◌, ◌<◌, eqb, length, get_or};
 ghost use Rattle.std.specs.Bool.{beq};
 ghost use Rattle.wfsx.specs.Model.{every};
@@ -20,7 +22,7 @@ pub const MAX_FIELDS: usize = 4 * MAX_SHEET;
 
 // An entry of a proof sheet. The kind is 1 for true and 0 for false. The rule number is read where the kind is 1, the group number where it is 0.
 #[repr(C)]
-#[derive(Drop)]
+#[derive(Clone, Copy)]
 pub struct SheetEntry {
     pub kind: u16,
     pub literal: u16,
@@ -29,7 +31,7 @@ pub struct SheetEntry {
 }
 
 // A sheet in a flat table: entry i has its kind, literal, rule number and group number from place 4 i on. How many entries it has stands beside it.
-#[derive(Drop)]
+#[derive(Clone, Copy)]
 pub struct Sheet {
     pub fields: [u16; MAX_FIELDS],
 }
@@ -93,7 +95,7 @@ pub fn put_entry(fields: &mut [u16], i: usize, e: SheetEntry)
 // ---- the check
 
 // Whether the sheet is accepted for the claim, and the number it is refused by otherwise; the index is that of 27.
-#[derive(Drop)]
+#[derive(Clone, Copy)]
 pub enum Judgement {
     Accepted,
     Refused { number: u8, index: usize },
@@ -203,7 +205,7 @@ fn rule_shown<'a>(
 }
 
 // How far the check has come: whether it goes on, the entry that is next, or the one that does not follow, and the literals of the entries before it.
-#[derive(Drop)]
+#[derive(Clone, Copy)]
 struct Progress {
     ok: bool,
     next: usize,
@@ -264,7 +266,7 @@ fn is_ended(fields: &[u16], i: usize, g: u16) -> bool
 }
 
 // A group of "false" entries: its number, the place behind it, and its literals, as far as a set has room.
-#[derive(Drop)]
+#[derive(Clone, Copy)]
 struct Group {
     number: u16,
     end: usize,

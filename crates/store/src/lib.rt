@@ -1,4 +1,6 @@
 // Stores into a lent slice, for every place: what lies past the end is left out, and nothing else changes.
+#![tactic(auto)]
+
 ghost use Rattle.std.specs.Prelude.{◌≡◌, set};
 ghost use Rattle.std.proofs.lemmas.List.Edits.{sets};
 
