@@ -14,51 +14,51 @@ use Rattle.litset.proofs.Ones.{ones_of, ones_of_more, ones_are_members}
 use Rattle.litset.proofs.count.Statement.{statement}
 use Rattle.litset.proofs.count.Tie as tie
 
-abbrev invariant-loop : tie.invariant-loop
+abbrev invariant-loop : tie.invariant-loop-i
 invariant-loop s n₀ i₀ n i = (i ≤ n_words) × (n ≤ 64 * i) × (n ≡ ones_of (take i s.words))
 
-abbrev decreases-loop : tie.decreases-loop
+abbrev decreases-loop : tie.decreases-loop-i
 decreases-loop s n₀ i₀ n i = n_words - i
 
-loop-holds : tie.Need-loop-init invariant-loop decreases-loop
+loop-holds : tie.Need-loop-i-init invariant-loop decreases-loop
 unfolding ones_of
 loop-holds c = search rules
 
-mul-n : tie.Need-overflow-mul-n invariant-loop decreases-loop
+mul-n : tie.Need-offset_bounds-s-i invariant-loop decreases-loop
 mul-n c = search rules
 
-element-copy-out-n : tie.Need-element-copy-out-n invariant-loop decreases-loop
+element-copy-out-n : tie.Need-bounds-s-i invariant-loop decreases-loop
 element-copy-out-n c = search rules
 
 -- a word has at most 64 ones
-few : (c : tie.After-n invariant-loop decreases-loop) → ones (get_or c.before.before.before.args.t1.words c.before.before.loop.i 0) ≤ 64
+few : (c : tie.After-n-1 invariant-loop decreases-loop) → ones (get_or c.before.before.before.args.s.words c.before.before.loop-i.i 0) ≤ 64
 few c =
-    let fit : Fits w64 (get_or c.before.before.before.args.t1.words c.before.before.loop.i 0) = search rules in
+    let fit : Fits w64 (get_or c.before.before.before.args.s.words c.before.before.loop-i.i 0) = search rules in
     ones-le 64 _ fit.fits
 
-cast-n : tie.Need-overflow-cast-n invariant-loop decreases-loop
+cast-n : tie.Need-overflow_cast-n invariant-loop decreases-loop
 cast-n c = omega (arith, few c)
 
-add-n : tie.Need-overflow-add-n invariant-loop decreases-loop
+add-n : tie.Need-overflow_add-n invariant-loop decreases-loop
 add-n c = omega (arith, few c)
 
-add-i : tie.Need-overflow-add-i invariant-loop decreases-loop
+add-i : tie.Need-overflow_add-i invariant-loop decreases-loop
 add-i c = search rules
 
-loop-less : tie.Need-loop-smaller invariant-loop decreases-loop
+loop-less : tie.Need-loop-i-smaller invariant-loop decreases-loop
 loop-less c = search rules
 
-loop-again : tie.Need-loop-preserved invariant-loop decreases-loop
+loop-again : tie.Need-loop-i-preserved invariant-loop decreases-loop
 loop-again c =
-    let size : length c.before.before.before.args.t1.words ≡ n_words = search rules in
-    (omega arith, omega (arith, few c), omega (arith, ones_of_more c.before.before.before.args.t1.words c.before.before.loop.i (omega arith)))
+    let size : length c.before.before.before.args.s.words ≡ n_words = search rules in
+    (omega arith, omega (arith, few c), omega (arith, ones_of_more c.before.before.before.args.s.words c.before.before.loop-i.i (omega arith)))
 
 returns : tie.Need-returns invariant-loop decreases-loop
 returns c =
-    let ws = c.before.before.args.t1.words in
+    let ws = c.before.before.args.s.words in
     let size : length ws ≡ n_words = search rules in
     let fit : (k : ℕ) → Fits w64 (get_or ws k 0) = λ k. search rules in
-    c.before.loop.invariant.2 ∙ ap ones_of (take_all c.before.loop.i ws (omega arith)) ∙ ones_are_members ws (λ k. (fit k).fits)
+    c.before.loop-i.invariant.2 ∙ ap ones_of (take_all c.before.loop-i.i ws (omega arith)) ∙ ones_are_members ws (λ k. (fit k).fits)
     ∙ ap (λ (n : ℕ). length (members (64 * n) (set_of ws))) size
 
 pub count_spec : {M : Type 1} → statement M

@@ -9,40 +9,40 @@ use Rattle.litset.proofs.Onward.{between, words_none, words_more, words_all}
 use Rattle.litset.proofs.from.Statement.{statement}
 use Rattle.litset.proofs.from.Tie as tie
 
-abbrev invariant-loop : tie.invariant-loop
+abbrev invariant-loop : tie.invariant-loop-i
 invariant-loop k words₀ i₀ words i = (i ≤ n_words) × (length words ≡ n_words) × (set_of words ≡ between k (64 * i))
 
-abbrev decreases-loop : tie.decreases-loop
+abbrev decreases-loop : tie.decreases-loop-i
 decreases-loop k words₀ i₀ words i = n_words - i
 
-loop-holds : tie.Need-loop-init invariant-loop decreases-loop
+loop-holds : tie.Need-loop-i-init invariant-loop decreases-loop
 loop-holds c = (search rules, search rules, words_none c.args.k)
 
-word-from-requires : tie.Need-word-from-requires invariant-loop decreases-loop
+word-from-requires : tie.Need-word_from-requires invariant-loop decreases-loop
 word-from-requires c κs = search rules
 
-mul_words : tie.Need-overflow-mul-words invariant-loop decreases-loop
+mul_words : tie.Need-offset_bounds-words-i invariant-loop decreases-loop
 mul_words c = search rules
 
-array-write-words : tie.Need-array-write-words invariant-loop decreases-loop
+array-write-words : tie.Need-bounds-words-i invariant-loop decreases-loop
 array-write-words c = search rules
 
-add-i : tie.Need-overflow-add-i invariant-loop decreases-loop
+add-i : tie.Need-overflow_add-i invariant-loop decreases-loop
 add-i c = search rules
 
-loop-less : tie.Need-loop-smaller invariant-loop decreases-loop
+loop-less : tie.Need-loop-i-smaller invariant-loop decreases-loop
 loop-less c = search rules
 
-loop-again : tie.Need-loop-preserved invariant-loop decreases-loop
+loop-again : tie.Need-loop-i-preserved invariant-loop decreases-loop
 loop-again c =
-    let at = c.before.before.loop in
-    (search rules, length-set at.words at.i _ ∙ at.invariant.1, words_more _ at.words at.i _ (omega (arith, at.invariant.1)) c.word-from.ensures at.invariant.2)
+    let at = c.before.before.loop-i in
+    (search rules, length-set at.words at.i _ ∙ at.invariant.1, words_more _ at.words at.i _ (omega (arith, at.invariant.1)) c.word_from.ensures at.invariant.2)
 
 returns : tie.Need-returns invariant-loop decreases-loop
-returns c = words_all _ c.before.loop.words c.before.loop.i c.loop-test.false c.before.loop.invariant.0 c.before.loop.invariant.2
+returns c = words_all _ c.before.loop-i.words c.before.loop-i.i c.loop-i-test.false c.before.loop-i.invariant.0 c.before.loop-i.invariant.2
 
-pub from-spec : {M : Type 1} → statement M
-from-spec =
+pub from_spec : {M : Type 1} → statement M
+from_spec =
     tie.close
     (tie.spec
     invariant-loop

@@ -4,26 +4,26 @@ use Rattle.litset.proofs.Onward.{word_full, word_none, word_part}
 use Rattle.litset.proofs.word_from.Statement.{statement}
 use Rattle.litset.proofs.word_from.Tie as tie
 
-mul-first : tie.Need-overflow-mul-first
+mul-first : tie.Need-overflow_mul-first
 mul-first c = search rules
 
-returns : tie.Need-returns
-returns c = word_full _ _ c.if1.true
+returns : tie.Need-returns-then-k-first
+returns c = word_full _ _ c.if-k-first.true
 
-add-if2 : tie.Need-overflow-add-if2
+add-if2 : tie.Need-overflow_add-first
 add-if2 c = search rules
 
-returns-2 : tie.Need-returns-2
-returns-2 c = word_none _ _ c.if2.true
+returns-2 : tie.Need-returns-then-first-k
+returns-2 c = word_none _ _ c.if-first-k.true
 
-sub-result : tie.Need-overflow-sub-result
+sub-result : tie.Need-overflow_sub-result
 sub-result c = search rules
 
-shl-result : tie.Need-overflow-shl-result
+shl-result : tie.Need-overflow_shl-result
 shl-result c = search rules
 
-returns-3 : tie.Need-returns-3
-returns-3 c = word_part _ _ c.before.if1.false c.if2.false
+returns-3 : tie.Need-returns
+returns-3 c = word_part _ _ c.before.if-k-first.false c.if-first-k.false
 
-pub word-from-spec : {M : Type 1} → statement M
-word-from-spec = tie.close (tie.spec mul-first returns add-if2 returns-2 sub-result shl-result returns-3)
+pub word_from_spec : {M : Type 1} → statement M
+word_from_spec = tie.close (tie.spec mul-first returns add-if2 returns-2 sub-result shl-result returns-3)
