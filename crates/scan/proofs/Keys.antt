@@ -12,7 +12,7 @@ use lib.Dec.{eqb, leb}
 use borrow.Author.Tests.{eq-eqb, eqb-true, leb-true}
 use Rattle.truth.proofs.Truth.{refuted, and_l, and_r}
 use Rattle.scan.specs.Text.{is_capital, small, counts_as, max_length, folded, SameName, same_name}
-use Rattle.scan.specs.Keys.{packed, in_word, Bytes, word_from, key_of, same_key_lem}
+use Rattle.scan.specs.Keys.{packed, in_word, Bytes, word_from, key_of, same_key}
 use Rattle.scan.specs.declared.Alphabet.{Alphabet}
 use Rattle.scan.specs.declared.Alphabet.TheVariants.{SmallOnly, EitherCase}
 use Rattle.scan.specs.declared.Key.{Key}
@@ -150,8 +150,8 @@ module _ (α : Alphabet) (a b : List ℕ) where
         ∙ sym (map-append (counts_as α) (take in_word (drop 0 b)) (take in_word (drop in_word b))) ∙ sym (ap (folded α) (two_words b (omega arith)))
 
     -- two names, of which one is short enough, are the same exactly where their keys are
-    same_key_lem : (length a ≡ length b → length a ≤ max_length) → same_key_lem (key_of α a) (key_of α b) ≡ same_name α a b
-    same_key_lem short = go (same_key_lem (key_of α a) (key_of α b)) refl
+    same_key_lem : (length a ≡ length b → length a ≤ max_length) → same_key (key_of α a) (key_of α b) ≡ same_name α a b
+    same_key_lem short = go (same_key (key_of α a) (key_of α b)) refl
       where
         lengths : Bool
         lengths = eqb (length a) (length b)
@@ -162,7 +162,7 @@ module _ (α : Alphabet) (a b : List ℕ) where
         seconds : Bool
         seconds = eqb (word_from α in_word a) (word_from α in_word b)
 
-        go : (t : Bool) → same_key_lem (key_of α a) (key_of α b) ≡ t → same_key_lem (key_of α a) (key_of α b) ≡ same_name α a b
+        go : (t : Bool) → same_key (key_of α a) (key_of α b) ≡ t → same_key (key_of α a) (key_of α b) ≡ same_name α a b
         go true e =
             let long = eqb-true (length a) (length b) (and_l lengths (firsts && seconds) e) in
             let words = and_r lengths (firsts && seconds) e in
@@ -171,11 +171,11 @@ module _ (α : Alphabet) (a b : List ℕ) where
             (eqb-true (word_from α 0 a) (word_from α 0 b) (and_l firsts seconds words)) (eqb-true (word_from α in_word a) (word_from α in_word b) (and_r firsts seconds words))))
         go false e = e ∙ sym (refuted (λ q. true≢false (sym (equal ((same_decides α a b).0 q)) ∙ e)))
           where
-            equal : SameName α a b → same_key_lem (key_of α a) (key_of α b) ≡ true
+            equal : SameName α a b → same_key (key_of α a) (key_of α b) ≡ true
             equal s =
                 rw (eq-eqb (length a) (length b) (same_length s), eq-eqb (word_from α 0 a) (word_from α 0 b) (same_word 0 s), eq-eqb (word_from α in_word a) (word_from α in_word b) (same_word in_word s))
 
 -- what `same_key` answers of two keys that `key_of` gave
 pub keys_tell : (α : Alphabet) (a b : List ℕ) (x y : Key) → (x ≡ key_of α a) × Bytes a → (y ≡ key_of α b) × Bytes b → (length a ≡ length b → length a ≤ max_length)
-    → same_key_lem x y ≡ same_name α a b
-keys_tell α a b x y p q short = ap₂ same_key_lem p.0 q.0 ∙ same_key_lem α a b p.1 q.1 short
+    → same_key x y ≡ same_name α a b
+keys_tell α a b x y p q short = ap₂ same_key p.0 q.0 ∙ same_key_lem α a b p.1 q.1 short

@@ -11,60 +11,60 @@ use Rattle.litset.proofs.Words.{Joined, joined_none, joined_more, joined_all}
 use Rattle.nameset.proofs.difference.Statement.{statement}
 use Rattle.nameset.proofs.difference.Tie as tie
 
-abbrev invariant-loop : tie.invariant-loop
+abbrev invariant-loop : tie.invariant-loop-i
 invariant-loop b t₀ i₀ t i = (i ≤ name_words) × (length t.words ≡ name_words) × Joined clear t₀.words b.words t.words i
 
-abbrev decreases-loop : tie.decreases-loop
+abbrev decreases-loop : tie.decreases-loop-i
 decreases-loop b t₀ i₀ t i = name_words - i
 
-loop-holds : tie.Need-loop-init invariant-loop decreases-loop
+loop-holds : tie.Need-loop-i-init invariant-loop decreases-loop
 loop-holds c = (omega arith, search rules, joined_none _ _ _)
 
-mul-t : tie.Need-overflow-mul-t invariant-loop decreases-loop
+mul-t : tie.Need-offset_bounds-t-i invariant-loop decreases-loop
 mul-t c = search rules
 
-element-copy-out-t : tie.Need-element-copy-out-t invariant-loop decreases-loop
+element-copy-out-t : tie.Need-bounds-t-i invariant-loop decreases-loop
 element-copy-out-t c = search rules
 
-mul-t-2 : tie.Need-overflow-mul-t-2 invariant-loop decreases-loop
+mul-t-2 : tie.Need-offset_bounds-b-i invariant-loop decreases-loop
 mul-t-2 c = search rules
 
-element-copy-out-t-2 : tie.Need-element-copy-out-t-2 invariant-loop decreases-loop
+element-copy-out-t-2 : tie.Need-bounds-b-i invariant-loop decreases-loop
 element-copy-out-t-2 c = search rules
 
-mul-t-3 : tie.Need-overflow-mul-t-3 invariant-loop decreases-loop
+mul-t-3 : tie.Need-offset_bounds-b-i-in-loop-i invariant-loop decreases-loop
 mul-t-3 c = search rules
 
-element-copy-out-t-3 : tie.Need-element-copy-out-t-3 invariant-loop decreases-loop
+element-copy-out-t-3 : tie.Need-bounds-b-i-in-loop-i invariant-loop decreases-loop
 element-copy-out-t-3 c = search rules
 
-mul-t-4 : tie.Need-overflow-mul-t-4 invariant-loop decreases-loop
+mul-t-4 : tie.Need-offset_bounds-t-i-in-loop-i invariant-loop decreases-loop
 mul-t-4 c = search rules
 
-element-write-t : tie.Need-element-write-t invariant-loop decreases-loop
+element-write-t : tie.Need-bounds-t-i-in-loop-i invariant-loop decreases-loop
 element-write-t c = search rules
 
-add-i : tie.Need-overflow-add-i invariant-loop decreases-loop
+add-i : tie.Need-overflow_add-i invariant-loop decreases-loop
 add-i c = search rules
 
-loop-less : tie.Need-loop-smaller invariant-loop decreases-loop
+loop-less : tie.Need-loop-i-smaller invariant-loop decreases-loop
 loop-less c = search rules
 
-loop-again : tie.Need-loop-preserved invariant-loop decreases-loop
+loop-again : tie.Need-loop-i-preserved invariant-loop decreases-loop
 loop-again c =
-    (omega arith, simp length-set c.before.before.before.before.loop.invariant.1, joined_more _ _ _ _ _ (search rules) c.before.before.before.before.loop.invariant.2)
+    (omega arith, simp length-set c.loop-i.invariant.1, joined_more _ _ _ _ _ (search rules) c.loop-i.invariant.2)
 
 returns : tie.Need-returns invariant-loop decreases-loop
 returns c =
-    let first : length c.before.before.args.a.words ≡ name_words = search rules in
-    let second : length c.before.before.args.t2.words ≡ name_words = search rules in
-    let i = c.before.loop.i in
-    let past_first : length c.before.before.args.a.words ≤ i = omega arith in
-    let past-second : length c.before.before.args.t2.words ≤ i = omega arith in
-    joined_all clear _ _ (λ p q. p && not q) clear_bit refl _ _ past_first past-second c.before.loop.invariant.2
+    let first : length c.args.a.words ≡ name_words = search rules in
+    let second : length c.args.b.words ≡ name_words = search rules in
+    let i = c.loop-i.i in
+    let past_first : length c.args.a.words ≤ i = omega arith in
+    let past-second : length c.args.b.words ≤ i = omega arith in
+    joined_all clear _ _ (λ p q. p && not q) clear_bit refl _ _ past_first past-second c.loop-i.invariant.2
 
-pub difference-spec : {M : Type 1} → statement M
-difference-spec =
+pub difference_spec : {M : Type 1} → statement M
+difference_spec =
     tie.close
     (tie.spec
     invariant-loop

@@ -7,5 +7,5 @@ use Rattle.nameset.proofs.empty.Tie as tie
 returns : tie.Need-returns
 returns c = set_zeros name_words
 
-pub empty-spec : {M : Type 1} → statement M
-empty-spec = tie.close (tie.spec returns)
+pub empty_spec : {M : Type 1} → statement M
+empty_spec = tie.close (tie.spec returns)

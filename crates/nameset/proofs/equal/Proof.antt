@@ -16,55 +16,55 @@ use Rattle.litset.proofs.Words.{set_settles}
 use Rattle.nameset.proofs.equal.Statement.{statement}
 use Rattle.nameset.proofs.equal.Tie as tie
 
-abbrev invariant-loop : tie.invariant-loop
+abbrev invariant-loop : tie.invariant-loop-i
 invariant-loop a b i₀ i = (i ≤ name_words) × ((k : ℕ) → k < i → get_or a.words k 0 ≡ get_or b.words k 0)
 
-abbrev decreases-loop : tie.decreases-loop
+abbrev decreases-loop : tie.decreases-loop-i
 decreases-loop a b i₀ i = name_words - i
 
-loop-holds : tie.Need-loop-init invariant-loop decreases-loop
+loop-holds : tie.Need-loop-i-init invariant-loop decreases-loop
 loop-holds c = search rules
 
-mul-if1 : tie.Need-overflow-mul-if1 invariant-loop decreases-loop
+mul-if1 : tie.Need-offset_bounds-a-i invariant-loop decreases-loop
 mul-if1 c = search rules
 
-element-copy-out-if1 : tie.Need-element-copy-out-if1 invariant-loop decreases-loop
+element-copy-out-if1 : tie.Need-bounds-a-i invariant-loop decreases-loop
 element-copy-out-if1 c = search rules
 
-mul-if1-2 : tie.Need-overflow-mul-if1-2 invariant-loop decreases-loop
+mul-if1-2 : tie.Need-offset_bounds-b-i invariant-loop decreases-loop
 mul-if1-2 c = search rules
 
-element-copy-out-if1-2 : tie.Need-element-copy-out-if1-2 invariant-loop decreases-loop
+element-copy-out-if1-2 : tie.Need-bounds-b-i invariant-loop decreases-loop
 element-copy-out-if1-2 c = search rules
 
-returns : tie.Need-returns invariant-loop decreases-loop
+returns : tie.Need-returns-then-a-i invariant-loop decreases-loop
 returns c =
-    let a = c.before.before.before.before.before.args.t1.words in
-    let b = c.before.before.before.before.before.args.t2.words in
-    let i = c.before.before.before.before.loop.i in
+    let a = c.args.a.words in
+    let b = c.args.b.words in
+    let i = c.loop-i.i in
     let size-a : length a ≡ name_words = search rules in
     let size-b : length b ≡ name_words = search rules in
     let fit-a : (k : ℕ) → Fits w64 (get_or a k 0) = λ k. search rules in
     let fit-b : (k : ℕ) → Fits w64 (get_or b k 0) = λ k. search rules in (
       (λ q. absurd (false≢true q)),
-      (λ e. absurd (c.if1.true (ap (λ (ws : List ℕ). get_or ws i 0) (set_settles a b (omega arith) (λ k. (fit-a k).fits) (λ k. (fit-b k).fits) e)))),
+      (λ e. absurd (c.if-a-i.true (ap (λ (ws : List ℕ). get_or ws i 0) (set_settles a b (omega arith) (λ k. (fit-a k).fits) (λ k. (fit-b k).fits) e)))),
     )
 
-add-i : tie.Need-overflow-add-i invariant-loop decreases-loop
+add-i : tie.Need-overflow_add-i invariant-loop decreases-loop
 add-i c = search rules
 
-loop-less : tie.Need-loop-smaller invariant-loop decreases-loop
+loop-less : tie.Need-loop-i-smaller invariant-loop decreases-loop
 loop-less c = search rules
 
-loop-again : tie.Need-loop-preserved invariant-loop decreases-loop
-loop-again c = (search rules, below_more _ _ c.before.before.before.before.loop.invariant.1 c.if1.false)
+loop-again : tie.Need-loop-i-preserved invariant-loop decreases-loop
+loop-again c = (search rules, below_more _ _ c.loop-i.invariant.1 c.if-a-i.false)
 
-returns-2 : tie.Need-returns-2 invariant-loop decreases-loop
+returns-2 : tie.Need-returns invariant-loop decreases-loop
 returns-2 c =
-    let first : length c.before.before.args.t1.words ≡ name_words = search rules in
-    let second : length c.before.before.args.t2.words ≡ name_words = search rules in
-    ((λ q. ap set_of (ext_get_or 0 _ _ (omega arith) (λ k h. c.before.loop.invariant.1 k (omega arith)))), (λ e. refl))
+    let first : length c.args.a.words ≡ name_words = search rules in
+    let second : length c.args.b.words ≡ name_words = search rules in
+    ((λ q. ap set_of (ext_get_or 0 _ _ (omega arith) (λ k h. c.loop-i.invariant.1 k (omega arith)))), (λ e. refl))
 
-pub equal-spec : {M : Type 1} → statement M
-equal-spec =
+pub equal_spec : {M : Type 1} → statement M
+equal_spec =
     tie.close (tie.spec invariant-loop decreases-loop loop-holds mul-if1 element-copy-out-if1 mul-if1-2 element-copy-out-if1-2 returns add-i loop-less loop-again returns-2)

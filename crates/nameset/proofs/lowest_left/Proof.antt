@@ -17,70 +17,70 @@ use Rattle.nameset.proofs.Names.{NoneBefore, none_here, lowest_here}
 use Rattle.nameset.proofs.lowest_left.Statement.{statement}
 use Rattle.nameset.proofs.lowest_left.Tie as tie
 
-abbrev invariant-loop : tie.invariant-loop
+abbrev invariant-loop : tie.invariant-loop-i
 invariant-loop a b i₀ i = (i ≤ name_words) × NoneBefore (set_of a.words ∖ set_of b.words) i
 
-abbrev decreases-loop : tie.decreases-loop
+abbrev decreases-loop : tie.decreases-loop-i
 decreases-loop a b i₀ i = name_words - i
 
-loop-holds : tie.Need-loop-init invariant-loop decreases-loop
+loop-holds : tie.Need-loop-i-init invariant-loop decreases-loop
 loop-holds c = (omega arith, λ k h. absurd (omega arith))
 
-mul-word-left : tie.Need-overflow-mul-word-left invariant-loop decreases-loop
+mul-word-left : tie.Need-offset_bounds-a-i invariant-loop decreases-loop
 mul-word-left c = search rules
 
-element-copy-out-word-left : tie.Need-element-copy-out-word-left invariant-loop decreases-loop
+element-copy-out-word-left : tie.Need-bounds-a-i invariant-loop decreases-loop
 element-copy-out-word-left c = search rules
 
-mul-word-left-2 : tie.Need-overflow-mul-word-left-2 invariant-loop decreases-loop
+mul-word-left-2 : tie.Need-offset_bounds-b-i invariant-loop decreases-loop
 mul-word-left-2 c = search rules
 
-element-copy-out-word-left-2 : tie.Need-element-copy-out-word-left-2 invariant-loop decreases-loop
+element-copy-out-word-left-2 : tie.Need-bounds-b-i invariant-loop decreases-loop
 element-copy-out-word-left-2 c = search rules
 
-word-left-requires : tie.Need-word-left-requires invariant-loop decreases-loop
+word-left-requires : tie.Need-word_left-left-requires invariant-loop decreases-loop
 word-left-requires c κs = search rules
 
-mul-t16 : tie.Need-overflow-mul-t16 invariant-loop decreases-loop
+mul-t16 : tie.Need-overflow_mul-result invariant-loop decreases-loop
 mul-t16 c = search rules
 
-cast-t18 : tie.Need-overflow-cast-t18 invariant-loop decreases-loop
-cast-t18 c = omega (arith, trailing_le 64 c.before.word-left.result)
+cast-t18 : tie.Need-overflow_cast-result invariant-loop decreases-loop
+cast-t18 c = omega (arith, trailing_le 64 c.word_left-left.result)
 
-add-t19 : tie.Need-overflow-add-t19 invariant-loop decreases-loop
-add-t19 c = omega (arith, trailing_le 64 c.before.word-left.result)
+add-t19 : tie.Need-overflow_add-result invariant-loop decreases-loop
+add-t19 c = omega (arith, trailing_le 64 c.word_left-left.result)
 
-returns : tie.Need-returns invariant-loop decreases-loop
+returns : tie.Need-returns-then-left-ne0 invariant-loop decreases-loop
 returns c =
     let at = c.before.before.before.before.before in
-    let a = at.before.args.t1.words in
-    let b = at.before.args.t2.words in
-    let i = at.loop.i in
-    let is : c.before.word-left.result ≡ left_word a b i = c.before.word-left.ensures in
-    let fit : Fits w64 c.before.word-left.result = search rules in
-    rw is (lowest_here _ (left_word a b) (left_bit a b) i at.loop.invariant.1 (rw is at fit.fits) (λ z. c.if1.true (is ∙ z)))
+    let a = at.args.a.words in
+    let b = at.args.b.words in
+    let i = at.loop-i.i in
+    let is : c.word_left-left.result ≡ left_word a b i = c.word_left-left.ensures in
+    let fit : Fits w64 c.word_left-left.result = search rules in
+    rw is (lowest_here _ (left_word a b) (left_bit a b) i at.loop-i.invariant.1 (rw is at fit.fits) (λ z. c.if-left-ne0.true (is ∙ z)))
 
-add-i : tie.Need-overflow-add-i invariant-loop decreases-loop
+add-i : tie.Need-overflow_add-i invariant-loop decreases-loop
 add-i c = search rules
 
-loop-less : tie.Need-loop-smaller invariant-loop decreases-loop
+loop-less : tie.Need-loop-i-smaller invariant-loop decreases-loop
 loop-less c = search rules
 
-loop-again : tie.Need-loop-preserved invariant-loop decreases-loop
+loop-again : tie.Need-loop-i-preserved invariant-loop decreases-loop
 loop-again c =
     let at = c.before.before.before.before.before in
-    let a = at.before.args.t1.words in
-    let b = at.before.args.t2.words in
-    (omega arith, none_here _ (left_word a b) (left_bit a b) at.loop.i at.loop.invariant.1 (sym c.before.word-left.ensures ∙ c.if1.false))
+    let a = at.args.a.words in
+    let b = at.args.b.words in
+    (omega arith, none_here _ (left_word a b) (left_bit a b) at.loop-i.i at.loop-i.invariant.1 (sym c.word_left-left.ensures ∙ c.if-left-ne0.false))
 
-returns-2 : tie.Need-returns-2 invariant-loop decreases-loop
+returns-2 : tie.Need-returns invariant-loop decreases-loop
 returns-2 c =
-    let a = c.before.before.args.t1.words in
+    let a = c.args.a.words in
     let size : length a ≡ name_words = search rules in
-    λ k. refuted (λ m. absurd (true≢false (sym m ∙ c.before.loop.invariant.1 k (omega (arith, member_below a k (and_l _ _ m), size)))))
+    λ k. refuted (λ m. absurd (true≢false (sym m ∙ c.loop-i.invariant.1 k (omega (arith, member_below a k (and_l _ _ m), size)))))
 
-pub lowest-left-spec : {M : Type 1} → statement M
-lowest-left-spec =
+pub lowest_left_spec : {M : Type 1} → statement M
+lowest_left_spec =
     tie.close
     (tie.spec
     invariant-loop

@@ -8,14 +8,14 @@ use Rattle.litset.proofs.Bit.{one_shl}
 use Rattle.nameset.proofs.word_with.Statement.{statement}
 use Rattle.nameset.proofs.word_with.Tie as tie
 
-shl-result : tie.Need-overflow-shl-result
+shl-result : tie.Need-overflow_shl-result
 shl-result c = search rules
 
-returns : tie.Need-returns
-returns c = rw (eq-eqb _ _ c.if1.true, one_shl (c.before.args.k % 64) (omega arith)) refl
+returns : tie.Need-returns-then-i-k
+returns c = rw (eq-eqb _ _ c.if-i-k.true, one_shl (c.args.k % 64) (omega arith)) refl
 
-returns-2 : tie.Need-returns-2
-returns-2 c = rw (ne_eqb _ _ c.if1.false) refl
+returns-2 : tie.Need-returns
+returns-2 c = rw (ne_eqb _ _ c.if-i-k.false) refl
 
-pub word-with-spec : {M : Type 1} → statement M
-word-with-spec = tie.close (tie.spec shl-result returns returns-2)
+pub word_with_spec : {M : Type 1} → statement M
+word_with_spec = tie.close (tie.spec shl-result returns returns-2)

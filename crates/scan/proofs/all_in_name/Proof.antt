@@ -11,53 +11,53 @@ use Rattle.scan.proofs.Bytes.{bytes_stop, bytes_go, bytes_end}
 use Rattle.scan.proofs.all_in_name.Statement.{statement}
 use Rattle.scan.proofs.all_in_name.Tie as tie
 
-abbrev invariant-loop : tie.invariant-loop
+abbrev invariant-loop : tie.invariant-loop-i
 invariant-loop s i₀ i = (i ≤ length s) × (all_bytes (λ b. in_name EitherCase (class_of b)) (drop i s) ≡ all_bytes (λ b. in_name EitherCase (class_of b)) s)
 
-abbrev decreases-loop : tie.decreases-loop
+abbrev decreases-loop : tie.decreases-loop-i
 decreases-loop s i₀ i = length s - i
 
-loop-holds : tie.Need-loop-init invariant-loop decreases-loop
+loop-holds : tie.Need-loop-i-init invariant-loop decreases-loop
 loop-holds c = search rules
 
-shared-slice-read-class-of : tie.Need-shared-slice-read-class-of invariant-loop decreases-loop
+shared-slice-read-class-of : tie.Need-bounds-s-i invariant-loop decreases-loop
 shared-slice-read-class-of c = search rules
 
-class-of-requires : tie.Need-class-of-requires invariant-loop decreases-loop
+class-of-requires : tie.Need-class_of-requires invariant-loop decreases-loop
 class-of-requires c κs = search rules
 
-in-name-requires : tie.Need-in-name-requires invariant-loop decreases-loop
+in-name-requires : tie.Need-in_name-requires invariant-loop decreases-loop
 in-name-requires c κs = search rules
 
-returns : tie.Need-returns invariant-loop decreases-loop
+returns : tie.Need-returns-then-not-in_name invariant-loop decreases-loop
 returns c =
     let at = c.before.before.before.before.before in
-    let s = at.before.before.args.s.now in
-    let e : in_name EitherCase (class_of (get_or s at.loop.i 0)) ≡ false =
-    ap (in_name EitherCase) (sym c.before.before.class_of.ensures) ∙ sym c.before.in-name.ensures ∙ not-true c.before.in-name.result c.if1.true in
-    sym (bytes_stop (λ b. in_name EitherCase (class_of b)) s at.loop.i c.before.before.before.before.loop-test.true e) ∙ at.loop.invariant.1
+    let s = at.args.s.now in
+    let e : in_name EitherCase (class_of (get_or s at.loop-i.i 0)) ≡ false =
+    ap (in_name EitherCase) (sym c.class_of.ensures) ∙ sym c.in_name.ensures ∙ not-true c.in_name.result c.if-not-in_name.true-raw in
+    sym (bytes_stop (λ b. in_name EitherCase (class_of b)) s at.loop-i.i c.loop-i-test.true e) ∙ at.loop-i.invariant.1
 
-add-i : tie.Need-overflow-add-i invariant-loop decreases-loop
+add-i : tie.Need-overflow_add-i invariant-loop decreases-loop
 add-i c = search rules
 
-loop-less : tie.Need-loop-smaller invariant-loop decreases-loop
+loop-less : tie.Need-loop-i-smaller invariant-loop decreases-loop
 loop-less c = search rules
 
-loop-again : tie.Need-loop-preserved invariant-loop decreases-loop
+loop-again : tie.Need-loop-i-preserved invariant-loop decreases-loop
 loop-again c =
     let at = c.before.before.before.before.before in
-    let s = at.before.before.args.s.now in
-    let e : in_name EitherCase (class_of (get_or s at.loop.i 0)) ≡ true =
-    ap (in_name EitherCase) (sym c.before.before.class_of.ensures) ∙ sym c.before.in-name.ensures ∙ not-false c.before.in-name.result c.if1.false in
-    (search rules, sym (bytes_go (λ b. in_name EitherCase (class_of b)) s at.loop.i c.before.before.before.before.loop-test.true e) ∙ at.loop.invariant.1)
+    let s = at.args.s.now in
+    let e : in_name EitherCase (class_of (get_or s at.loop-i.i 0)) ≡ true =
+    ap (in_name EitherCase) (sym c.class_of.ensures) ∙ sym c.in_name.ensures ∙ not-false c.in_name.result c.if-not-in_name.false-raw in
+    (search rules, sym (bytes_go (λ b. in_name EitherCase (class_of b)) s at.loop-i.i c.loop-i-test.true e) ∙ at.loop-i.invariant.1)
 
-returns-2 : tie.Need-returns-2 invariant-loop decreases-loop
+returns-2 : tie.Need-returns invariant-loop decreases-loop
 returns-2 c =
     let at = c.before in
-    sym (bytes_end (λ b. in_name EitherCase (class_of b)) at.before.before.args.s.now at.loop.i c.loop-test.false) ∙ at.loop.invariant.1
+    sym (bytes_end (λ b. in_name EitherCase (class_of b)) at.args.s.now at.loop-i.i c.loop-i-test.false) ∙ at.loop-i.invariant.1
 
-pub all-in-name-spec : {M : Type 1} → statement M
-all-in-name-spec =
+pub all_in_name_spec : {M : Type 1} → statement M
+all_in_name_spec =
     tie.close
     (tie.spec
     invariant-loop

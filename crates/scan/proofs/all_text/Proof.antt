@@ -9,46 +9,46 @@ use Rattle.scan.proofs.Bytes.{bytes_stop, bytes_go, bytes_end}
 use Rattle.scan.proofs.all_text.Statement.{statement}
 use Rattle.scan.proofs.all_text.Tie as tie
 
-abbrev invariant-loop : tie.invariant-loop
+abbrev invariant-loop : tie.invariant-loop-i
 invariant-loop s i₀ i = (i ≤ length s) × (all_bytes is_text (drop i s) ≡ all_bytes is_text s)
 
-abbrev decreases-loop : tie.decreases-loop
+abbrev decreases-loop : tie.decreases-loop-i
 decreases-loop s i₀ i = length s - i
 
-loop-holds : tie.Need-loop-init invariant-loop decreases-loop
+loop-holds : tie.Need-loop-i-init invariant-loop decreases-loop
 loop-holds c = search rules
 
-shared-slice-read-is-text : tie.Need-shared-slice-read-is-text invariant-loop decreases-loop
+shared-slice-read-is-text : tie.Need-bounds-s-i invariant-loop decreases-loop
 shared-slice-read-is-text c = search rules
 
-is-text-requires : tie.Need-is-text-requires invariant-loop decreases-loop
+is-text-requires : tie.Need-is_text-requires invariant-loop decreases-loop
 is-text-requires c κs = search rules
 
-returns : tie.Need-returns invariant-loop decreases-loop
+returns : tie.Need-returns-then-not-is_text invariant-loop decreases-loop
 returns c =
     let at = c.before.before.before.before in
-    let s = at.before.before.args.s.now in
-    sym (bytes_stop is_text s at.loop.i c.before.before.before.loop-test.true (sym c.before.is-text.ensures ∙ not-true c.before.is-text.result c.if1.true)) ∙ at.loop.invariant.1
+    let s = at.args.s.now in
+    sym (bytes_stop is_text s at.loop-i.i c.loop-i-test.true (sym c.is_text.ensures ∙ not-true c.is_text.result c.if-not-is_text.true-raw)) ∙ at.loop-i.invariant.1
 
-add-i : tie.Need-overflow-add-i invariant-loop decreases-loop
+add-i : tie.Need-overflow_add-i invariant-loop decreases-loop
 add-i c = search rules
 
-loop-less : tie.Need-loop-smaller invariant-loop decreases-loop
+loop-less : tie.Need-loop-i-smaller invariant-loop decreases-loop
 loop-less c = search rules
 
-loop-again : tie.Need-loop-preserved invariant-loop decreases-loop
+loop-again : tie.Need-loop-i-preserved invariant-loop decreases-loop
 loop-again c =
     let at = c.before.before.before.before in
-    let s = at.before.before.args.s.now in
-    (search rules, sym (bytes_go is_text s at.loop.i c.before.before.before.loop-test.true (sym c.before.is-text.ensures ∙ not-false c.before.is-text.result c.if1.false)) ∙ at.loop.invariant.1)
+    let s = at.args.s.now in
+    (search rules, sym (bytes_go is_text s at.loop-i.i c.loop-i-test.true (sym c.is_text.ensures ∙ not-false c.is_text.result c.if-not-is_text.false-raw)) ∙ at.loop-i.invariant.1)
 
-returns-2 : tie.Need-returns-2 invariant-loop decreases-loop
+returns-2 : tie.Need-returns invariant-loop decreases-loop
 returns-2 c =
     let at = c.before in
-    sym (bytes_end is_text at.before.before.args.s.now at.loop.i c.loop-test.false) ∙ at.loop.invariant.1
+    sym (bytes_end is_text at.args.s.now at.loop-i.i c.loop-i-test.false) ∙ at.loop-i.invariant.1
 
-pub all-text-spec : {M : Type 1} → statement M
-all-text-spec =
+pub all_text_spec : {M : Type 1} → statement M
+all_text_spec =
     tie.close
     (tie.spec
     invariant-loop

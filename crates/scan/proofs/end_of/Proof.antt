@@ -9,44 +9,44 @@ use native.Mathlib.Omega.{arith}
 use Rattle.scan.proofs.end_of.Statement.{statement}
 use Rattle.scan.proofs.end_of.Tie as tie
 
-abbrev invariant-loop : tie.invariant-loop
+abbrev invariant-loop : tie.invariant-loop-i
 invariant-loop s from stop i₀ i = (from ≤ i) × (from ≤ length s → i ≤ length s) × (i + len_to stop (drop i s) ≡ from + len_to stop (drop from s))
 
-abbrev decreases-loop : tie.decreases-loop
+abbrev decreases-loop : tie.decreases-loop-i
 decreases-loop s from stop i₀ i = length s - i
 
-loop-holds : tie.Need-loop-init invariant-loop decreases-loop
+loop-holds : tie.Need-loop-i-init invariant-loop decreases-loop
 loop-holds c = (omega arith, (λ h. h), search rules)
 
-shared-slice-read-if1 : tie.Need-shared-slice-read-if1 invariant-loop decreases-loop
+shared-slice-read-if1 : tie.Need-bounds-s-i invariant-loop decreases-loop
 shared-slice-read-if1 c = search rules
 
-returns : tie.Need-returns invariant-loop decreases-loop
+returns : tie.Need-returns-then-s-i invariant-loop decreases-loop
 returns c =
-    let a = c.before.before.before.before.args in
-    let found = len_to_here a.stop a.s.now c.before.before.before.loop.i c.before.before.loop-test.true c.if1.true in
-    (omega arith, omega arith, λ h. c.before.before.before.loop.invariant.1 h)
+    let a = c.args in
+    let found = len_to_here a.stop a.s.now c.loop-i.i c.loop-i-test.true c.if-s-i.true in
+    (omega arith, omega arith, λ h. c.loop-i.invariant.1 h)
 
-add-i : tie.Need-overflow-add-i invariant-loop decreases-loop
+add-i : tie.Need-overflow_add-i invariant-loop decreases-loop
 add-i c = search rules
 
-loop-less : tie.Need-loop-smaller invariant-loop decreases-loop
+loop-less : tie.Need-loop-i-smaller invariant-loop decreases-loop
 loop-less c = search rules
 
-loop-again : tie.Need-loop-preserved invariant-loop decreases-loop
+loop-again : tie.Need-loop-i-preserved invariant-loop decreases-loop
 loop-again c =
-    let a = c.before.before.before.before.args in
-    let next = len_to_more a.stop a.s.now c.before.before.before.loop.i c.before.before.loop-test.true c.if1.false in
+    let a = c.args in
+    let next = len_to_more a.stop a.s.now c.loop-i.i c.loop-i-test.true c.if-s-i.false in
     (omega arith, (λ h. omega arith), omega arith)
 
-returns-2 : tie.Need-returns-2 invariant-loop decreases-loop
+returns-2 : tie.Need-returns invariant-loop decreases-loop
 returns-2 c =
-    let a = c.before.before.args in
-    let none = len_to_end a.stop a.s.now c.before.loop.i c.loop-test.false in
-    (omega arith, omega arith, λ h. c.before.loop.invariant.1 h)
+    let a = c.args in
+    let none = len_to_end a.stop a.s.now c.loop-i.i c.loop-i-test.false in
+    (omega arith, omega arith, λ h. c.loop-i.invariant.1 h)
 
-pub end-of-spec : {M : Type 1} → statement M
-end-of-spec =
+pub end_of_spec : {M : Type 1} → statement M
+end_of_spec =
     tie.close
     (tie.spec
     invariant-loop

@@ -8,22 +8,22 @@ use Rattle.scan.proofs.Keys.{keys_tell}
 use Rattle.scan.proofs.spells.Statement.{statement}
 use Rattle.scan.proofs.spells.Tie as tie
 
-key-of-requires : tie.Need-key-of-requires
+key-of-requires : tie.Need-key_of-requires
 key-of-requires c κs = search rules
 
-key-of-requires-2 : tie.Need-key-of-requires-2
+key-of-requires-2 : tie.Need-key_of-requires-2
 key-of-requires-2 c κs = search rules
 
-same-key-requires : tie.Need-same-key-requires
+same-key-requires : tie.Need-same_key-requires
 same-key-requires c κs = search rules
 
 returns : tie.Need-returns
 returns c short =
-    let one = c.before.before.key_of in
-    let two = c.before.key-of2 in
-    let a = c.before.before.before.before.before.args in
+    let one = c.key_of in
+    let two = c.key_of-2 in
+    let a = c.args in
     c.same_key.ensures ∙ keys_tell SmallOnly a.s.now a.word.now one.result two.result one.ensures two.ensures (λ e. omega (arith, short, e))
     ∙ spelled_same a.s.now a.word.now
 
-pub spells-spec : {M : Type 1} → statement M
-spells-spec = tie.close (tie.spec key-of-requires key-of-requires-2 same-key-requires returns)
+pub spells_spec : {M : Type 1} → statement M
+spells_spec = tie.close (tie.spec key-of-requires key-of-requires-2 same-key-requires returns)

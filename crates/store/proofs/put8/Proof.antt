@@ -5,17 +5,17 @@ use lib.Seq.{set_out}
 use Rattle.store.proofs.put8.Statement.{statement}
 use Rattle.store.proofs.put8.Tie as tie
 
-slice-write-t : tie.Need-slice-write-t
+slice-write-t : tie.Need-bounds-t-i
 slice-write-t c = search rules
 
-same_length : tie.Need-same-length
+same_length : tie.Need-shape_of-t
 same_length c = search rules
 
-returns : tie.Need-returns
+returns : tie.Need-returns-then-i-t
 returns c = search rules
 
-returns-2 : tie.Need-returns-2
-returns-2 c = sym (set_out _ _ _ c.if1.false)
+returns-2 : tie.Need-returns-else-i-t
+returns-2 c = sym (set_out _ _ _ c.if-i-t.false)
 
-pub put8-spec : {M : Type 1} → statement M
-put8-spec = tie.close (tie.spec slice-write-t same_length returns returns-2)
+pub put8_spec : {M : Type 1} → statement M
+put8_spec = tie.close (tie.spec slice-write-t same_length returns returns-2)

@@ -11,56 +11,56 @@ use Rattle.store.proofs.Stored.{sets_next, sets_end, sets_out}
 use Rattle.store.proofs.put_all.Statement.{statement}
 use Rattle.store.proofs.put_all.Tie as tie
 
-abbrev invariant-loop : tie.invariant-loop
+abbrev invariant-loop : tie.invariant-loop-i
 invariant-loop t₀ at s i₀ p₀ t i p = (sets t p (drop i s) ≡ sets t₀ at s) × (length t ≡ length t₀)
 
-abbrev decreases-loop : tie.decreases-loop
+abbrev decreases-loop : tie.decreases-loop-i
 decreases-loop t₀ at s i₀ p₀ t i p = length s - i
 
-loop-holds : tie.Need-loop-init invariant-loop decreases-loop
+loop-holds : tie.Need-loop-i-init invariant-loop decreases-loop
 loop-holds c = (refl, refl)
 
-shared-slice-read-t : tie.Need-shared-slice-read-t invariant-loop decreases-loop
+shared-slice-read-t : tie.Need-bounds-s-i invariant-loop decreases-loop
 shared-slice-read-t c = search rules
 
-slice-write-t : tie.Need-slice-write-t invariant-loop decreases-loop
+slice-write-t : tie.Need-bounds-t-p invariant-loop decreases-loop
 slice-write-t c = search rules
 
-add-i : tie.Need-overflow-add-i invariant-loop decreases-loop
+add-i : tie.Need-overflow_add-i invariant-loop decreases-loop
 add-i c = search rules
 
-add-p : tie.Need-overflow-add-p invariant-loop decreases-loop
+add-p : tie.Need-overflow_add-p invariant-loop decreases-loop
 add-p c = omega (arith, ltb-true)
 
-loop-less : tie.Need-loop-smaller invariant-loop decreases-loop
+loop-less : tie.Need-loop-i-smaller invariant-loop decreases-loop
 loop-less c = search rules
 
-loop-again : tie.Need-loop-preserved invariant-loop decreases-loop
+loop-again : tie.Need-loop-i-preserved invariant-loop decreases-loop
 loop-again c =
-    let a = c.before.before.before.before.args in
-    let was = c.before.before.before.loop in
-    (sym (sets_next was.t was.p a.s.now was.i c.before.before.loop-test.true) ∙ was.invariant.0, simp length-set was.invariant.1)
+    let a = c.args in
+    let was = c.loop-i in
+    (sym (sets_next was.t was.p a.s.now was.i c.loop-i-test.true) ∙ was.invariant.0, simp length-set was.invariant.1)
 
-same_length : tie.Need-same-length invariant-loop decreases-loop
-same_length c = c.before.before.loop.invariant.1
+same_length : tie.Need-shape_of-t-else-p-t invariant-loop decreases-loop
+same_length c = c.loop-i.invariant.1
 
-returns : tie.Need-returns invariant-loop decreases-loop
+returns : tie.Need-returns-else-p-t invariant-loop decreases-loop
 returns c =
-    let a = c.before.before.before.args in
-    let was = c.before.before.loop in
-    sym (sets_out was.t was.p (drop was.i a.s.now) (ltb-false _ _ c.if1.false)) ∙ was.invariant.0
+    let a = c.args in
+    let was = c.loop-i in
+    sym (sets_out was.t was.p (drop was.i a.s.now) (ltb-false _ _ c.if-p-t.false-raw)) ∙ was.invariant.0
 
-same-length-2 : tie.Need-same-length-2 invariant-loop decreases-loop
-same-length-2 c = c.before.loop.invariant.1
+same-length-2 : tie.Need-shape_of-t-after-loop-i invariant-loop decreases-loop
+same-length-2 c = c.loop-i.invariant.1
 
-returns-2 : tie.Need-returns-2 invariant-loop decreases-loop
+returns-2 : tie.Need-returns-after-loop-i invariant-loop decreases-loop
 returns-2 c =
-    let a = c.before.before.args in
-    let was = c.before.loop in
-    sym (sets_end was.t was.p a.s.now was.i c.loop-test.false) ∙ was.invariant.0
+    let a = c.args in
+    let was = c.loop-i in
+    sym (sets_end was.t was.p a.s.now was.i c.loop-i-test.false) ∙ was.invariant.0
 
-pub put-all-spec : {M : Type 1} → statement M
-put-all-spec =
+pub put_all_spec : {M : Type 1} → statement M
+put_all_spec =
     tie.close
     (tie.spec
     invariant-loop
