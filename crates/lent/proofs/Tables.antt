@@ -34,10 +34,10 @@ use Rattle.lent.proofs.Called.{Loan}
 -- ---- a table's machine value
 
 -- the numbers as a struct's field has them
-abbrev pub in_field_lem : List ℕ → List ℕ
-in_field_lem xs = map (λ (v : ℕ). v) xs
+abbrev pub in_field : List ℕ → List ℕ
+in_field xs = map (λ (v : ℕ). v) xs
 
-in_field_lem : (xs : List ℕ) → in_field_lem xs ≡ xs
+in_field_lem : (xs : List ℕ) → in_field xs ≡ xs
 in_field_lem [] = refl
 in_field_lem (x ∷ xs) = ap (λ (l : List ℕ). x ∷ l) (in_field_lem xs)
 
@@ -49,7 +49,7 @@ table_ty n = ty_array (ty_int w16) n
 
 -- a table of n numbers, each of 16 bits
 abbrev pub IsTable : ℕ → List ℕ → Type 0
-IsTable n xs = Is (Array u16 n) (in_field_lem xs) (table_of (in_field_lem xs) ∷ [])
+IsTable n xs = Is (Array u16 n) (in_field xs) (table_of (in_field xs) ∷ [])
 
 -- the table at (b, o) as a callee has it, at the lifetime α under the name γ
 module _ (n b o : ℕ) (xs : List ℕ) (α : ℕ) (γ : GName) where
@@ -99,7 +99,7 @@ module _ {M : Type 1} {𝓤 : Ura M} (𝓛 : Logic 𝓤) (n b o : ℕ) where
   abbrev Numbers : List ℕ → Fml
   Numbers xs = (arr_parts (shares u16) n).part full_share xs b o
 
-  module _ {i : Item 𝓤} {back : Val → Item 𝓤} (xs : List ℕ) (p : Part (Go {0}) 𝓛 i full_share (table_ty n) b o (table_of (in_field_lem xs)) back) (fits : IsTable n xs) (room : Room u16 n) where
+  module _ {i : Item 𝓤} {back : Val → Item 𝓤} (xs : List ℕ) (p : Part (Go {0}) 𝓛 i full_share (table_ty n) b o (table_of (in_field xs)) back) (fits : IsTable n xs) (room : Room u16 n) where
     long : length xs ≡ n
     long = ap length (sym (in_field_lem xs)) ∙ fits.1.0.1
 
@@ -109,19 +109,19 @@ module _ {M : Type 1} {𝓤 : Ura M} (𝓛 : Logic 𝓤) (n b o : ℕ) where
 
     takes_out : ent 𝓤 (mean 𝓛 i) (sep 𝓤 ⟦ Numbers xs ⟧ Left)
     takes_out =
-        qed 𝓛 (i ∷ []) ∵ use1 𝓛 (‵ (fat full_share (table_ty n) b o (table_of (in_field_lem xs))) ⊛ raw Left) p.out $ split ! $ use1 𝓛 (‵ (Numbers (in_field_lem xs))) (cell_part (in_field_lem xs) fits) $
+        qed 𝓛 (i ∷ []) ∵ use1 𝓛 (‵ (fat full_share (table_ty n) b o (table_of (in_field xs))) ⊛ raw Left) p.out $ split ! $ use1 𝓛 (‵ (Numbers (in_field xs))) (cell_part (in_field xs) fits) $
         rewrite ! 0 (λ (l : List ℕ). ‵ (Numbers l)) (in_field_lem xs) refl $ done !
 
-    puts_in : (ys : List ℕ) → ent 𝓤 (sep 𝓤 ⟦ Numbers ys ⟧ Left) (guard 𝓤 (IsTable n ys) (mean 𝓛 (back (table_of (in_field_lem ys)))))
+    puts_in : (ys : List ℕ) → ent 𝓤 (sep 𝓤 ⟦ Numbers ys ⟧ Left) (guard 𝓤 (IsTable n ys) (mean 𝓛 (back (table_of (in_field ys)))))
     puts_in ys =
-        let v : Val = table_of (in_field_lem ys) in
+        let v : Val = table_of (in_field ys) in
         qed 𝓛 (‵ (Numbers ys) ∷ raw Left ∷ []) ∵ rewrite ! 0 (λ (l : List ℕ). ‵ (Numbers l)) (sym (in_field_lem ys)) refl $
-        use1 𝓛 (given (IsTable n ys) (‵ (fat full_share (table_ty n) b o v))) (part_cell (in_field_lem ys)) $ learn ! (λ g. check ! g $ move ! (1 ∷ []) $
+        use1 𝓛 (given (IsTable n ys) (‵ (fat full_share (table_ty n) b o v))) (part_cell (in_field ys)) $ learn ! (λ g. check ! g $ move ! (1 ∷ []) $
         use1 𝓛 (raw (wand 𝓤 (H.at full_share (table_ty n) b o v) (mean 𝓛 (back v)))) (all_e 𝓤 (λ (u : Val). wand 𝓤 (H.at full_share (table_ty n) b o u) (mean 𝓛 (back u))) v) $ move ! (1 ∷ 0 ∷ []) $
         by ! (apply∗ 𝓤 (H.at full_share (table_ty n) b o v) (mean 𝓛 (back v))))
 
     -- as `&mut`: the callee says which numbers it leaves
-    pub mut_loan : (ys : List ℕ) → Loan 𝓛 i (MutTo n b o xs) (λ γ. finally u16 γ ys) (given (IsTable n ys) (back (table_of (in_field_lem ys))))
+    pub mut_loan : (ys : List ℕ) → Loan 𝓛 i (MutTo n b o xs) (λ γ. finally u16 γ ys) (given (IsTable n ys) (back (table_of (in_field ys))))
     mut_loan ys = record {
       keeps = λ α γ. sep 𝓤 (A.lent (α ∷ []) (Held u16 n b o γ)) Left;
       lends = λ α.
@@ -147,5 +147,5 @@ module _ {M : Type 1} {𝓤 : Ura M} (𝓛 : Logic 𝓤) (n b o : ℕ) where
           at_once ! $ show ! (λ (δ : GName). sep 𝓤 ⟦ ShrTo n b o xs α δ ⟧ (sep 𝓤 (A.lent (α ∷ []) (Numbers xs)) Left)) γ $ done !);
       back = λ α γ.
           qed 𝓛 (‵ (fdead (α ∷ [])) ∷ ‵ ftrue ∷ (‵ (flent (α ∷ []) (Numbers xs)) ⊛ raw Left) ∷ []) ∵ updating ! $ move ! (1 ∷ []) $ drop ! $ move ! (1 ∷ []) $ split ! $ move ! (2 ∷ 0 ∷ []) $ lent_back ! tt $ at_once ! $
-          use2 𝓛 (given (IsTable n xs) (back (table_of (in_field_lem xs)))) (puts_in xs) $ learn ! (λ _. rewrite ! 0 (λ (j : Item 𝓤). j) p.same refl $ done !);
+          use2 𝓛 (given (IsTable n xs) (back (table_of (in_field xs)))) (puts_in xs) $ learn ! (λ _. rewrite ! 0 (λ (j : Item 𝓤). j) p.same refl $ done !);
     }

@@ -8,27 +8,27 @@ use Rattle.book.proofs.Lookup.{name_past}
 use Rattle.book.proofs.name_at.Statement.{statement}
 use Rattle.book.proofs.name_at.Tie as tie
 
-slice-aggregate-result : tie.Need-slice-aggregate-result
+slice-aggregate-result : tie.Need-slice_bounds-result-end
 slice-aggregate-result c = search rules
 
-returns : tie.Need-returns
-returns c = let a = c.before.before.before.before.args in name_past a.text.now a.lengths.now a.k c.before.if1.true
+returns : tie.Need-returns-then-text-k
+returns c = let a = c.args in name_past a.text.now a.lengths.now a.k c.if-text-k.true
 
-mul-part : tie.Need-overflow-mul-part
+mul-part : tie.Need-overflow_mul-k
 mul-part c = search rules
 
-length-at-requires : tie.Need-length-at-requires
+length-at-requires : tie.Need-length_at-requires
 length-at-requires c κs = search rules
 
 part-requires : tie.Need-part-requires
 part-requires c κs = search rules
 
-returns-2 : tie.Need-returns-2
+returns-2 : tie.Need-returns
 returns-2 c =
-    let a = c.before.before.before.before.before.args in
-    c.part.ensures ∙ ap (λ (n : ℕ). take n (drop (max_length * a.k) a.text.now)) c.before.length_at.ensures
+    let a = c.args in
+    c.part.ensures ∙ ap (λ (n : ℕ). take n (drop (max_length * a.k) a.text.now)) c.length_at.ensures
 
-pub name-at-spec : {M : Type 1} → statement M
-name-at-spec =
+pub name_at_spec : {M : Type 1} → statement M
+name_at_spec =
     tie.close
     (tie.spec slice-aggregate-result returns mul-part length-at-requires part-requires returns-2)

@@ -8,5 +8,5 @@ returns : tie.Need-returns
 unfolding book_of joined starts_from
 returns c = search rules
 
-pub no-book-spec : {M : Type 1} → statement M
-no-book-spec = tie.close (tie.spec returns)
+pub no_book_spec : {M : Type 1} → statement M
+no_book_spec = tie.close (tie.spec returns)

@@ -7,43 +7,43 @@ use Rattle.keys.proofs.Found.{key_read}
 use Rattle.keys.proofs.has.Statement.{statement}
 use Rattle.keys.proofs.has.Tie as tie
 
-mul-number-at : tie.Need-overflow-mul-number-at
+mul-number-at : tie.Need-overflow_mul-k
 mul-number-at c = search rules
 
-number-at-requires : tie.Need-number-at-requires
+number-at-requires : tie.Need-number_at-requires
 number-at-requires c κs = search rules
 
-mul-number-at-2 : tie.Need-overflow-mul-number-at-2
+mul-number-at-2 : tie.Need-overflow_mul-k-2
 mul-number-at-2 c = search rules
 
-add-number-at : tie.Need-overflow-add-number-at
+add-number-at : tie.Need-overflow_add-k
 add-number-at c = search rules
 
-number-at-requires-2 : tie.Need-number-at-requires-2
+number-at-requires-2 : tie.Need-number_at-requires-2
 number-at-requires-2 c κs = search rules
 
-mul-number-at-3 : tie.Need-overflow-mul-number-at-3
+mul-number-at-3 : tie.Need-overflow_mul-k-3
 mul-number-at-3 c = search rules
 
-add-number-at-2 : tie.Need-overflow-add-number-at-2
+add-number-at-2 : tie.Need-overflow_add-k-2
 add-number-at-2 c = search rules
 
-number-at-requires-3 : tie.Need-number-at-requires-3
+number-at-requires-3 : tie.Need-number_at-requires-3
 number-at-requires-3 c κs = search rules
 
-same-key-requires : tie.Need-same-key-requires
+same-key-requires : tie.Need-same_key-requires
 same-key-requires c κs = search rules
 
 returns : tie.Need-returns
 returns c =
     let e = c.before in
-    let a = e.before.before.before.before.args in
+    let a = e.args in
     c.same_key.ensures
     ∙ ap (λ (x : Key). same_key x a.key)
-    (key_read a.keys.now a.k _ _ _ e.before.before.number_at.ensures e.before.number-at2.ensures e.number-at3.ensures)
+    (key_read a.keys.now a.k _ _ _ e.number_at.ensures e.number_at-2.ensures e.number_at-3.ensures)
 
-pub has-spec : {M : Type 1} → statement M
-has-spec =
+pub has_spec : {M : Type 1} → statement M
+has_spec =
     tie.close
     (tie.spec
     mul-number-at

@@ -4,17 +4,17 @@ use native.Mathlib.Omega.{arith}
 use Rattle.keys.proofs.hint_at.Statement.{statement}
 use Rattle.keys.proofs.hint_at.Tie as tie
 
-shared-slice-read-result : tie.Need-shared-slice-read-result
+shared-slice-read-result : tie.Need-bounds-hints-i
 shared-slice-read-result c = search rules
 
-cast-result : tie.Need-overflow-cast-result
-cast-result c = omega (arith, c.shared-slice-known.given c.before.before.args.i)
+cast-result : tie.Need-overflow_cast-result
+cast-result c = omega (arith, c.shared_slice_known-1.given c.args.i)
 
-returns : tie.Need-returns
-returns c = omega (arith, c.shared-slice-known.given c.before.before.args.i)
+returns : tie.Need-returns-then-i-hints
+returns c = omega (arith, c.shared_slice_known-1.given c.args.i)
 
-returns-2 : tie.Need-returns-2
+returns-2 : tie.Need-returns
 returns-2 c = search rules
 
-pub hint-at-spec : {M : Type 1} → statement M
-hint-at-spec = tie.close (tie.spec shared-slice-read-result cast-result returns returns-2)
+pub hint_at_spec : {M : Type 1} → statement M
+hint_at_spec = tie.close (tie.spec shared-slice-read-result cast-result returns returns-2)

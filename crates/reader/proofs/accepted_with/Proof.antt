@@ -12,5 +12,5 @@ returns : tie.Need-returns
 unfolding loaded_of
 returns c = λ d keys h s. ap {B = Loaded} (λ (x : Book). record { answer = Accepted; book = x }) (book_held h s)
 
-pub accepted-with-spec : {M : Type 1} → statement M
-accepted-with-spec = tie.close (tie.spec returns)
+pub accepted_with_spec : {M : Type 1} → statement M
+accepted_with_spec = tie.close (tie.spec returns)

@@ -2,11 +2,11 @@
 use Rattle.reader.proofs.last_answer.Statement.{statement}
 use Rattle.reader.proofs.last_answer.Tie as tie
 
-returns : tie.Need-returns
-returns c = rw c.if1.true
+returns : tie.Need-returns-then-t
+returns c = rw c.if-t.true
 
-returns-2 : tie.Need-returns-2
-returns-2 c = rw c.if1.false
+returns-2 : tie.Need-returns
+returns-2 c = rw c.if-t.false
 
-pub last-answer-spec : {M : Type 1} → statement M
-last-answer-spec = tie.close (tie.spec returns returns-2)
+pub last_answer_spec : {M : Type 1} → statement M
+last_answer_spec = tie.close (tie.spec returns returns-2)

@@ -8,54 +8,54 @@ use Rattle.reader.proofs.read.Statement.{statement}
 use Rattle.reader.proofs.read.Tie as tie
 
 -- the file read
-abbrev at_read : tie.After-entries2 → tie.After-read-file
+abbrev at_read : tie.After-entries-2-1 → tie.After-read_file
 at_read c = c.before.before.before.before.before.before.before
 
-slice-aggregate-read-file : tie.Need-slice-aggregate-read-file
+slice-aggregate-read-file : tie.Need-slice_bounds-read_file-end
 slice-aggregate-read-file c = search rules
 
-slice-aggregate-read-file-2 : tie.Need-slice-aggregate-read-file-2
+slice-aggregate-read-file-2 : tie.Need-slice_bounds-read_file-end-2
 slice-aggregate-read-file-2 c = search rules
 
-slice-aggregate-read-file-3 : tie.Need-slice-aggregate-read-file-3
+slice-aggregate-read-file-3 : tie.Need-slice_bounds-read_file-end-3
 slice-aggregate-read-file-3 c = search rules
 
-slice-aggregate-read-file-4 : tie.Need-slice-aggregate-read-file-4
+slice-aggregate-read-file-4 : tie.Need-slice_bounds-read_file-end-4
 slice-aggregate-read-file-4 c = search rules
 
-slice-aggregate-read-file-5 : tie.Need-slice-aggregate-read-file-5
+slice-aggregate-read-file-5 : tie.Need-slice_bounds-read_file-end-5
 slice-aggregate-read-file-5 c = search rules
 
-slice-aggregate-read-file-6 : tie.Need-slice-aggregate-read-file-6
+slice-aggregate-read-file-6 : tie.Need-slice_bounds-read_file-end-6
 slice-aggregate-read-file-6 c = search rules
 
-slice-aggregate-read-file-7 : tie.Need-slice-aggregate-read-file-7
+slice-aggregate-read-file-7 : tie.Need-slice_bounds-read_file-end-7
 slice-aggregate-read-file-7 c = search rules
 
-read-file-requires : tie.Need-read-file-requires
+read-file-requires : tie.Need-read_file-requires
 read-file-requires c κs = nothing_held
 
-enum-known-t : tie.Need-enum-known-t
-enum-known-t c = c.match.keys1
+enum-known-t : tie.Need-enum_known-t
+enum-known-t c = c.in-Fine.keys1
 
-accepted-with-requires : tie.Need-accepted-with-requires
+accepted-with-requires : tie.Need-accepted_with-requires
 accepted-with-requires c κs = search rules
 
-enum-known-number : tie.Need-enum-known-number
-enum-known-number c = c.match.keys2
+enum-known-number : tie.Need-enum_known-number
+enum-known-number c = c.in-Fault.keys2
 
 refusal-requires : tie.Need-refusal-requires
 refusal-requires c κs = search rules
 
-returns : tie.Need-returns
+returns : tie.Need-returns-in-Fine
 returns c =
-    let read = at_read c.before.before.before.before in
-    loaded_fine read.read-file.ensures c.before.before.t.given.1 nothing_stored c.accepted-with.ensures
+    let read = at_read c.before.before in
+    loaded_fine read.read_file.ensures c.in-Fine.is nothing_stored c.accepted_with.ensures
 
-returns-2 : tie.Need-returns-2
+returns-2 : tie.Need-returns-in-Fault
 returns-2 c =
-    let read = at_read c.before.before.before.before in
-    c.refusal.ensures ∙ ap loaded_of (sym (file_fault_lem read.read-file.ensures c.before.before.number.given.1))
+    let read = at_read c.before.before in
+    c.refusal.ensures ∙ ap loaded_of (sym (file_fault_lem read.read_file.ensures c.in-Fault.is))
 
 pub read_spec : {M : Type 1} → statement M
 read_spec =

@@ -5,17 +5,17 @@ use mathlib.Core.Path.{sym}
 use Rattle.sheet.proofs.field_at.Statement.{statement}
 use Rattle.sheet.proofs.field_at.Tie as tie
 
-mul-result : tie.Need-overflow-mul-result
+mul-result : tie.Need-offset_bounds-fields-p
 mul-result c = search rules
 
-shared-slice-read-result : tie.Need-shared-slice-read-result
+shared-slice-read-result : tie.Need-bounds-fields-p
 shared-slice-read-result c = search rules
 
-returns : tie.Need-returns
+returns : tie.Need-returns-then-p-fields
 returns c = search rules
 
-returns-2 : tie.Need-returns-2
-returns-2 c = sym (get_or-eq_default c.before.args.fields.now 0 c.if1.false)
+returns-2 : tie.Need-returns
+returns-2 c = sym (get_or-eq_default c.args.fields.now 0 c.if-p-fields.false)
 
-pub field-at-spec : {M : Type 1} → statement M
-field-at-spec = tie.close (tie.spec mul-result shared-slice-read-result returns returns-2)
+pub field_at_spec : {M : Type 1} → statement M
+field_at_spec = tie.close (tie.spec mul-result shared-slice-read-result returns returns-2)

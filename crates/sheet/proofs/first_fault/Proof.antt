@@ -11,10 +11,10 @@ use Rattle.sheet.proofs.Turns.{ComeTo, come_start, come_end, come_on, come_halt}
 use Rattle.sheet.proofs.first_fault.Statement.{statement}
 use Rattle.sheet.proofs.first_fault.Tie as tie
 
-abbrev invariant-loop : tie.invariant-loop
+abbrev invariant-loop : tie.invariant-loop-p
 invariant-loop heads starts entries facts known fields n p₀ p = ComeTo (all_rules heads starts entries) (set_of facts.words) known (entry_in fields) n p
 
-abbrev decreases-loop : tie.decreases-loop
+abbrev decreases-loop : tie.decreases-loop-p
 decreases-loop heads starts entries facts known fields n p₀ p = n - p.next
 
 empty-requires : tie.Need-empty-requires invariant-loop decreases-loop
@@ -23,30 +23,30 @@ empty-requires c κs = search rules
 empty-requires-2 : tie.Need-empty-requires-2 invariant-loop decreases-loop
 empty-requires-2 c κs = search rules
 
-loop-holds : tie.Need-loop-init invariant-loop decreases-loop
-loop-holds c = come_start _ refl c.before.empty.ensures c.empty2.ensures
+loop-holds : tie.Need-loop-p-init invariant-loop decreases-loop
+loop-holds c = come_start _ refl c.empty.ensures c.empty-2.ensures
 
-turn-requires : tie.Need-turn-requires invariant-loop decreases-loop
+turn-requires : tie.Need-turn-q-requires invariant-loop decreases-loop
 turn-requires c κs = search rules
 
-returns : tie.Need-returns invariant-loop decreases-loop
-returns c = come_halt c.before.before.before.before.before.loop.invariant c.before.before.turn.ensures (not-true c.before.before.turn.result.ok c.if2.true)
+returns : tie.Need-returns-then-not-q invariant-loop decreases-loop
+returns c = come_halt c.loop-p.invariant c.turn-q.ensures (not-true c.turn-q.result.ok c.if-not-q.true)
 
-loop-less : tie.Need-loop-smaller invariant-loop decreases-loop
+loop-less : tie.Need-loop-p-smaller invariant-loop decreases-loop
 loop-less c =
-    let w = c.before.before.turn.ensures.goes (not-false c.before.before.turn.result.ok c.if2.false) in
+    let w = c.turn-q.ensures.goes (not-false c.turn-q.result.ok c.if-not-q.false) in
     let further = w.0 in
-    let here = c.before.before.before.if1.true in
+    let here = c.loop-p-test.true in
     omega arith
 
-loop-again : tie.Need-loop-preserved invariant-loop decreases-loop
-loop-again c = come_on c.before.before.before.before.before.loop.invariant c.before.before.turn.ensures (not-false c.before.before.turn.result.ok c.if2.false)
+loop-again : tie.Need-loop-p-preserved invariant-loop decreases-loop
+loop-again c = come_on c.loop-p.invariant c.turn-q.ensures (not-false c.turn-q.result.ok c.if-not-q.false)
 
-returns-2 : tie.Need-returns-2 invariant-loop decreases-loop
-returns-2 c = come_end c.before.before.loop.invariant c.if1.false
+returns-2 : tie.Need-returns invariant-loop decreases-loop
+returns-2 c = come_end c.loop-p.invariant c.loop-p-test.false
 
-pub first-fault-spec : {M : Type 1} → statement M
-first-fault-spec =
+pub first_fault_spec : {M : Type 1} → statement M
+first_fault_spec =
     tie.close
     (tie.spec
     invariant-loop

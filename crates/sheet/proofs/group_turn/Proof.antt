@@ -15,48 +15,48 @@ use Rattle.sheet.proofs.group_turn.Tie as tie
 facts_below : (s : tie.Start) (A : ℕ) → A ∈ set_of s.args.facts.words → A < capacity
 facts_below s = let len : length s.args.facts.words ≡ n_words = search rules in member_room s.args.facts.words len
 
-group-of-requires : tie.Need-group-of-requires
+group-of-requires : tie.Need-group_of-group-requires
 group-of-requires c κs = search rules
 
-is-ended-requires : tie.Need-is-ended-requires
+is-ended-requires : tie.Need-is_ended-requires
 is-ended-requires c κs = search rules
 
-returns : tie.Need-returns
+returns : tie.Need-returns-then-is_ended
 returns c =
     let start = c.before.before.before.before.before.before.before.before.before in
     let A = start.args in
-    let g = c.before.before.before.before.Group-of in
+    let g = c.group_of-group in
     turn_halts refl start.requires.0
-    (group_ends A.heads.now A.starts.now A.entries.now _ (facts_below start) _ start.requires.1 (entry_in A.fields.now) A.n _ _ A.p.next start.requires.0 start.requires.2 g.ensures.run g.ensures.stops (rw (← g.ensures.number) (sym c.before.before.before.is-ended.ensures ∙ c.before.before.if1.true)))
+    (group_ends A.heads.now A.starts.now A.entries.now _ (facts_below start) _ start.requires.1 (entry_in A.fields.now) A.n _ _ A.p.next start.requires.0 start.requires.2 g.ensures.run g.ensures.stops (rw (← g.ensures.number) (sym c.is_ended.ensures ∙ c.if-is_ended.true)))
 
-union-requires : tie.Need-union-requires
+union-requires : tie.Need-union-falses-requires
 union-requires c κs = search rules
 
-left-open-requires : tie.Need-left-open-requires
+left-open-requires : tie.Need-left_open-opened-requires
 left-open-requires c κs = search rules
 
-first-failing-requires : tie.Need-first-failing-requires
+first-failing-requires : tie.Need-first_failing-k-requires
 first-failing-requires c κs = search rules
 
-returns-2 : tie.Need-returns-2
+returns-2 : tie.Need-returns-then-k-end
 returns-2 c =
-    let start = c.before.before.before.before.before.before.before.before.before.before.before.before.before in
+    let start = c.before.before.before.before.before.before.before.before.before.before.before.before.before.before.before.before in
     let A = start.args in
-    let g = c.before.before.before.before.before.before.before.before.Group-of in
+    let g = c.group_of-group in
     let inside = g.ensures.run.within in
-    turn_halts refl (omega (arith, c.before.before.if2.true))
-    (group_fails A.heads.now A.starts.now A.entries.now _ (facts_below start) _ start.requires.1 (entry_in A.fields.now) A.n _ _ A.p.next start.requires.0 start.requires.2 g.ensures.run g.ensures.stops (rw (← g.ensures.number) (sym c.before.before.before.before.before.before.before.is-ended.ensures ∙ c.before.before.before.before.before.before.if1.false)) c.before.before.before.before.before.union.ensures c.before.before.before.before.left_open.ensures c.before.before.before.first-failing.ensures c.before.before.if2.true)
+    turn_halts refl (omega (arith, c.if-k-end.true))
+    (group_fails A.heads.now A.starts.now A.entries.now _ (facts_below start) _ start.requires.1 (entry_in A.fields.now) A.n _ _ A.p.next start.requires.0 start.requires.2 g.ensures.run g.ensures.stops (rw (← g.ensures.number) (sym c.is_ended.ensures ∙ c.if-is_ended.false)) c.union-falses.ensures c.left_open-opened.ensures c.first_failing-k.ensures c.if-k-end.true)
 
-returns-3 : tie.Need-returns-3
+returns-3 : tie.Need-returns
 returns-3 c =
-    let start = c.before.before.before.before.before.before.before.before.before.before.before.before in
+    let start = c.before.before.before.before.before.before.before.before.before.before.before.before.before.before.before in
     let A = start.args in
-    let g = c.before.before.before.before.before.before.before.Group-of in
+    let g = c.group_of-group in
     turn_goes refl g.ensures.run.above g.ensures.run.within
-    (group_goes A.heads.now A.starts.now A.entries.now _ (facts_below start) _ start.requires.1 (entry_in A.fields.now) A.n _ _ A.p.next start.requires.0 start.requires.2 g.ensures.run g.ensures.stops (rw (← g.ensures.number) (sym c.before.before.before.before.before.before.is-ended.ensures ∙ c.before.before.before.before.before.if1.false)) c.before.before.before.before.union.ensures c.before.before.before.left_open.ensures c.before.before.first-failing.ensures c.before.if2.false)
+    (group_goes A.heads.now A.starts.now A.entries.now _ (facts_below start) _ start.requires.1 (entry_in A.fields.now) A.n _ _ A.p.next start.requires.0 start.requires.2 g.ensures.run g.ensures.stops (rw (← g.ensures.number) (sym c.is_ended.ensures ∙ c.if-is_ended.false)) c.union-falses.ensures c.left_open-opened.ensures c.first_failing-k.ensures c.if-k-end.false)
 
-pub group-turn-spec : {M : Type 1} → statement M
-group-turn-spec =
+pub group_turn_spec : {M : Type 1} → statement M
+group_turn_spec =
     tie.close
     (tie.spec
     group-of-requires

@@ -6,42 +6,42 @@ use Rattle.sheet.proofs.Entries.{Unseen, unseen_none, unseen_all, unseen_found, 
 use Rattle.sheet.proofs.is_among.Statement.{statement}
 use Rattle.sheet.proofs.is_among.Tie as tie
 
-abbrev invariant-loop : tie.invariant-loop
+abbrev invariant-loop : tie.invariant-loop-j
 invariant-loop fields n kind literal j₀ j = Unseen kind literal (entry_in fields) n j
 
-abbrev decreases-loop : tie.decreases-loop
+abbrev decreases-loop : tie.decreases-loop-j
 decreases-loop fields n kind literal j₀ j = n - j
 
-loop-holds : tie.Need-loop-init invariant-loop decreases-loop
+loop-holds : tie.Need-loop-j-init invariant-loop decreases-loop
 loop-holds c = unseen_none _ _ _ _
 
-entry-at-requires : tie.Need-entry-at-requires invariant-loop decreases-loop
+entry-at-requires : tie.Need-entry_at-requires invariant-loop decreases-loop
 entry-at-requires c κs = search rules
 
-is-claim-requires : tie.Need-is-claim-requires invariant-loop decreases-loop
+is-claim-requires : tie.Need-is_claim-requires invariant-loop decreases-loop
 is-claim-requires c κs = search rules
 
-returns : tie.Need-returns invariant-loop decreases-loop
+returns : tie.Need-returns-then-is_claim invariant-loop decreases-loop
 returns c =
     let turn = c.before.before.before in
-    unseen_found _ _ _ _ turn.before.loop.invariant turn.loop-test.true c.before.before.entry_at.ensures c.before.is-claim.ensures c.if1.true
+    unseen_found _ _ _ _ turn.loop-j.invariant turn.loop-j-test.true c.entry_at.ensures c.is_claim.ensures c.if-is_claim.true
 
-add-j : tie.Need-overflow-add-j invariant-loop decreases-loop
+add-j : tie.Need-overflow_add-j invariant-loop decreases-loop
 add-j c = search rules
 
-loop-less : tie.Need-loop-smaller invariant-loop decreases-loop
+loop-less : tie.Need-loop-j-smaller invariant-loop decreases-loop
 loop-less c = search rules
 
-loop-again : tie.Need-loop-preserved invariant-loop decreases-loop
+loop-again : tie.Need-loop-j-preserved invariant-loop decreases-loop
 loop-again c =
     let turn = c.before.before.before in
-    unseen_more _ _ _ _ turn.before.loop.invariant turn.loop-test.true c.before.before.entry_at.ensures c.before.is-claim.ensures c.if1.false
+    unseen_more _ _ _ _ turn.loop-j.invariant turn.loop-j-test.true c.entry_at.ensures c.is_claim.ensures c.if-is_claim.false
 
-returns-2 : tie.Need-returns-2 invariant-loop decreases-loop
-returns-2 c = unseen_all _ _ _ _ c.before.loop.invariant c.loop-test.false
+returns-2 : tie.Need-returns invariant-loop decreases-loop
+returns-2 c = unseen_all _ _ _ _ c.loop-j.invariant c.loop-j-test.false
 
-pub is-among-spec : {M : Type 1} → statement M
-is-among-spec =
+pub is_among_spec : {M : Type 1} → statement M
+is_among_spec =
     tie.close
     (tie.spec
     invariant-loop

@@ -8,15 +8,15 @@ use Rattle.sheet.proofs.is_claim.Tie as tie
 wide-requires : tie.Need-wide-requires
 wide-requires c κs = search rules
 
-returns : tie.Need-returns
+returns : tie.Need-returns-then-e-kind
 returns c =
-    let A = c.before.before.before.args in
-    sym (rw (eq-eqb A.e.kind A.kind c.before.if1.true, c.wide.ensures) refl)
+    let A = c.args in
+    sym (rw (eq-eqb A.e.kind A.kind c.if-e-kind.true, c.wide.ensures) refl)
 
-returns-2 : tie.Need-returns-2
+returns-2 : tie.Need-returns-else-e-kind
 returns-2 c =
-    let A = c.before.before.args in
-    sym (rw (ne_eqb A.e.kind A.kind c.if1.false) refl)
+    let A = c.args in
+    sym (rw (ne_eqb A.e.kind A.kind c.if-e-kind.false) refl)
 
-pub is-claim-spec : {M : Type 1} → statement M
-is-claim-spec = tie.close (tie.spec wide-requires returns returns-2)
+pub is_claim_spec : {M : Type 1} → statement M
+is_claim_spec = tie.close (tie.spec wide-requires returns returns-2)

@@ -8,44 +8,44 @@ use Rattle.sheet.proofs.Entries.{numbered_none, numbered_found, numbered_other}
 use Rattle.sheet.proofs.is_ended.Statement.{statement}
 use Rattle.sheet.proofs.is_ended.Tie as tie
 
-abbrev invariant-loop : tie.invariant-loop
+abbrev invariant-loop : tie.invariant-loop-j
 invariant-loop fields i g j₀ j = numbered (entry_in fields) i g ≡ numbered (entry_in fields) j g
 
-abbrev decreases-loop : tie.decreases-loop
+abbrev decreases-loop : tie.decreases-loop-j
 decreases-loop fields i g j₀ j = j
 
-loop-holds : tie.Need-loop-init invariant-loop decreases-loop
+loop-holds : tie.Need-loop-j-init invariant-loop decreases-loop
 loop-holds c = refl
 
-sub-j : tie.Need-overflow-sub-j invariant-loop decreases-loop
+sub-j : tie.Need-overflow_sub-j invariant-loop decreases-loop
 sub-j c = search rules
 
-entry-at-requires : tie.Need-entry-at-requires invariant-loop decreases-loop
+entry-at-requires : tie.Need-entry_at-requires invariant-loop decreases-loop
 entry-at-requires c κs = search rules
 
-is-false-of-requires : tie.Need-is-false-of-requires invariant-loop decreases-loop
+is-false-of-requires : tie.Need-is_false_of-requires invariant-loop decreases-loop
 is-false-of-requires c κs = search rules
 
-returns : tie.Need-returns invariant-loop decreases-loop
+returns : tie.Need-returns-then-is_false_of invariant-loop decreases-loop
 returns c =
     let turn = c.before.before.before in
-    numbered_found _ _ _ turn.before.loop.invariant (omega (arith, turn.loop-test.true)) c.before.before.entry_at.ensures c.before.is-false-of.ensures c.if1.true
+    numbered_found _ _ _ turn.loop-j.invariant (omega (arith, turn.loop-j-test.true)) c.entry_at.ensures c.is_false_of.ensures c.if-is_false_of.true
 
-loop-less : tie.Need-loop-smaller invariant-loop decreases-loop
+loop-less : tie.Need-loop-j-smaller invariant-loop decreases-loop
 loop-less c = search rules
 
-loop-again : tie.Need-loop-preserved invariant-loop decreases-loop
+loop-again : tie.Need-loop-j-preserved invariant-loop decreases-loop
 loop-again c =
     let turn = c.before.before.before in
-    numbered_other _ _ _ turn.before.loop.invariant (omega (arith, turn.loop-test.true)) c.before.before.entry_at.ensures c.before.is-false-of.ensures c.if1.false
+    numbered_other _ _ _ turn.loop-j.invariant (omega (arith, turn.loop-j-test.true)) c.entry_at.ensures c.is_false_of.ensures c.if-is_false_of.false
 
-returns-2 : tie.Need-returns-2 invariant-loop decreases-loop
+returns-2 : tie.Need-returns invariant-loop decreases-loop
 returns-2 c =
-    let none_left : c.before.loop.j ≡ 0 = omega (arith, c.loop-test.false) in
-    sym (c.before.loop.invariant ∙ rw none_left (numbered_none _ _))
+    let none_left : c.loop-j.j ≡ 0 = omega (arith, c.loop-j-test.false) in
+    sym (c.loop-j.invariant ∙ rw none_left (numbered_none _ _))
 
-pub is-ended-spec : {M : Type 1} → statement M
-is-ended-spec =
+pub is_ended_spec : {M : Type 1} → statement M
+is_ended_spec =
     tie.close
     (tie.spec
     invariant-loop

@@ -4,11 +4,11 @@ use borrow.Author.Tests.{eq-eqb, ne_eqb}
 use Rattle.sheet.proofs.is_false_of.Statement.{statement}
 use Rattle.sheet.proofs.is_false_of.Tie as tie
 
-returns : tie.Need-returns
-returns c = sym (rw (eq-eqb c.before.before.before.args.e.kind 0 c.before.if1.true) refl)
+returns : tie.Need-returns-then-e-eq0
+returns c = sym (rw (eq-eqb c.args.e.kind 0 c.if-e-eq0.true) refl)
 
-returns-2 : tie.Need-returns-2
-returns-2 c = sym (rw (ne_eqb c.before.before.args.e.kind 0 c.if1.false) refl)
+returns-2 : tie.Need-returns-else-e-eq0
+returns-2 c = sym (rw (ne_eqb c.args.e.kind 0 c.if-e-eq0.false) refl)
 
-pub is-false-of-spec : {M : Type 1} → statement M
-is-false-of-spec = tie.close (tie.spec returns returns-2)
+pub is_false_of_spec : {M : Type 1} → statement M
+is_false_of_spec = tie.close (tie.spec returns returns-2)

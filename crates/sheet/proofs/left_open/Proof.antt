@@ -13,69 +13,69 @@ use Rattle.sheet.proofs.Tables.{Passed, passed_none, passed_there, passed_fails,
 use Rattle.sheet.proofs.left_open.Statement.{statement}
 use Rattle.sheet.proofs.left_open.Tie as tie
 
-abbrev invariant-loop : tie.invariant-loop
+abbrev invariant-loop : tie.invariant-loop-r
 invariant-loop heads starts entries t d shut done₀ r₀ done r = Passed heads starts entries (λ e. beq (shown (set_of d.words) (set_of t.words) e) false) (set_of done₀.words) (set_of done.words) r
 
-abbrev decreases-loop : tie.decreases-loop
+abbrev decreases-loop : tie.decreases-loop-r
 decreases-loop heads starts entries t d shut done₀ r₀ done r = length heads - r
 
 facts_below : (s : tie.Start invariant-loop decreases-loop) (A : ℕ) → A ∈ set_of s.args.facts.words → A < capacity
 facts_below s = let len : length s.args.facts.words ≡ n_words = search rules in member_room s.args.facts.words len
 
-complements-requires : tie.Need-complements-requires invariant-loop decreases-loop
+complements-requires : tie.Need-complements-shut-requires invariant-loop decreases-loop
 complements-requires c κs = search rules
 
-union-requires : tie.Need-union-requires invariant-loop decreases-loop
+union-requires : tie.Need-union-done-requires invariant-loop decreases-loop
 union-requires c κs = search rules
 
-loop-holds : tie.Need-loop-init invariant-loop decreases-loop
+loop-holds : tie.Need-loop-r-init invariant-loop decreases-loop
 loop-holds c = passed_none
 
-head-at-requires : tie.Need-head-at-requires invariant-loop decreases-loop
+head-at-requires : tie.Need-head_at-head-requires invariant-loop decreases-loop
 head-at-requires c κs = search rules
 
 contains-requires : tie.Need-contains-requires invariant-loop decreases-loop
 contains-requires c κs = search rules
 
-add_r : tie.Need-overflow-add-r invariant-loop decreases-loop
+add_r : tie.Need-overflow_add-r invariant-loop decreases-loop
 add_r c = search rules
 
-loop-less : tie.Need-loop-smaller invariant-loop decreases-loop
+loop-less : tie.Need-loop-r-smaller-then-contains invariant-loop decreases-loop
 loop-less c = search rules
 
-loop-again : tie.Need-loop-preserved invariant-loop decreases-loop
+loop-again : tie.Need-loop-r-preserved-then-contains invariant-loop decreases-loop
 loop-again c =
     let turn = c.before.before.before in
-    passed_there turn.before.loop.invariant turn.loop-test.true c.before.before.head_at.ensures (sym c.before.contains.ensures ∙ c.if1.true)
+    passed_there turn.loop-r.invariant turn.loop-r-test.true c.head_at-head.ensures (sym c.contains.ensures ∙ c.if-contains.true)
 
-body-as-requires : tie.Need-body-as-requires invariant-loop decreases-loop
+body-as-requires : tie.Need-body_as-requires invariant-loop decreases-loop
 body-as-requires c κs = search rules
 
-add-r-2 : tie.Need-overflow-add-r-2 invariant-loop decreases-loop
+add-r-2 : tie.Need-overflow_add-r-then-not-body_as invariant-loop decreases-loop
 add-r-2 c = search rules
 
-loop-less-2 : tie.Need-loop-smaller-2 invariant-loop decreases-loop
+loop-less-2 : tie.Need-loop-r-smaller-then-not-body_as invariant-loop decreases-loop
 loop-less-2 c = search rules
 
-loop-again-2 : tie.Need-loop-preserved-2 invariant-loop decreases-loop
+loop-again-2 : tie.Need-loop-r-preserved-then-not-body_as invariant-loop decreases-loop
 loop-again-2 c =
     let turn = c.before.before.before.before.before in
-    passed_fails turn.before.loop.invariant turn.loop-test.true (sym c.before.body-as.ensures ∙ not-true c.before.body-as.result c.if2.true)
+    passed_fails turn.loop-r.invariant turn.loop-r-test.true (sym c.body_as.ensures ∙ not-true c.body_as.result c.if-not-body_as.true-raw)
 
-insert-requires : tie.Need-insert-requires invariant-loop decreases-loop
+insert-requires : tie.Need-insert-done-requires invariant-loop decreases-loop
 insert-requires c κs = search rules
 
-add-r-3 : tie.Need-overflow-add-r-3 invariant-loop decreases-loop
+add-r-3 : tie.Need-overflow_add-r-in-loop-r invariant-loop decreases-loop
 add-r-3 c = search rules
 
-loop-less-3 : tie.Need-loop-smaller-3 invariant-loop decreases-loop
+loop-less-3 : tie.Need-loop-r-smaller invariant-loop decreases-loop
 loop-less-3 c = search rules
 
-loop-again-3 : tie.Need-loop-preserved-3 invariant-loop decreases-loop
+loop-again-3 : tie.Need-loop-r-preserved invariant-loop decreases-loop
 loop-again-3 c =
     let open-body = c.before.before in
     let turn = open-body.before.before.before.before in
-    passed_adds turn.before.loop.invariant turn.loop-test.true open-body.before.before.before.head_at.ensures (sym open-body.body-as.ensures ∙ not-false open-body.body-as.result c.before.if2.false) c.insert.ensures
+    passed_adds turn.loop-r.invariant turn.loop-r-test.true open-body.head_at-head.ensures (sym open-body.body_as.ensures ∙ not-false open-body.body_as.result c.if-not-body_as.false-raw) c.insert-done.ensures
 
 difference-requires : tie.Need-difference-requires invariant-loop decreases-loop
 difference-requires c κs = search rules
@@ -83,10 +83,10 @@ difference-requires c κs = search rules
 returns : tie.Need-returns invariant-loop decreases-loop
 returns c =
     let start = c.before.before.before in
-    passed_open _ (facts_below start.before.before.before.before.before) start.before.complements.ensures start.union.ensures c.before.before.loop.invariant c.before.loop-test.false c.difference.ensures
+    passed_open _ (facts_below start.before.before.before.before.before) start.complements-shut.ensures start.union-done.ensures c.loop-r.invariant c.loop-r-test.false c.difference.ensures
 
-pub left-open-spec : {M : Type 1} → statement M
-left-open-spec =
+pub left_open_spec : {M : Type 1} → statement M
+left_open_spec =
     tie.close
     (tie.spec
     invariant-loop

@@ -8,15 +8,15 @@ use Rattle.sheet.proofs.passes.Tie as tie
 contains-requires : tie.Need-contains-requires
 contains-requires c κs = search rules
 
-returns : tie.Need-returns
+returns : tie.Need-returns-then-literal-known
 returns c =
-    let A = c.before.before.args in
-    sym (rw (lt-ltb A.literal A.known c.before.if1.true, c.contains.ensures) refl)
+    let A = c.args in
+    sym (rw (lt-ltb A.literal A.known c.if-literal-known.true, c.contains.ensures) refl)
 
-returns-2 : tie.Need-returns-2
+returns-2 : tie.Need-returns-else-literal-known
 returns-2 c =
-    let A = c.before.args in
-    sym (rw (le-ltb A.literal A.known c.if1.false) refl)
+    let A = c.args in
+    sym (rw (le-ltb A.literal A.known c.if-literal-known.false) refl)
 
-pub passes-spec : {M : Type 1} → statement M
-passes-spec = tie.close (tie.spec contains-requires returns returns-2)
+pub passes_spec : {M : Type 1} → statement M
+passes_spec = tie.close (tie.spec contains-requires returns returns-2)

@@ -8,41 +8,41 @@ use Rattle.sheet.proofs.Turns.{single_fails, single_goes, turn_halts, turn_goes}
 use Rattle.sheet.proofs.turn.Statement.{statement}
 use Rattle.sheet.proofs.turn.Tie as tie
 
-entry-at-requires : tie.Need-entry-at-requires
+entry-at-requires : tie.Need-entry_at-e-requires
 entry-at-requires c κs = search rules
 
-group-turn-requires : tie.Need-group-turn-requires
-group-turn-requires c κs = (search rules, search rules, ap (λ (x : SheetEntry). x.kind) (sym c.before.before.entry_at.ensures) ∙ c.if1.taken)
+group-turn-requires : tie.Need-group_turn-requires
+group-turn-requires c κs = (search rules, search rules, ap (λ (x : SheetEntry). x.kind) (sym c.entry_at-e.ensures) ∙ c.if-e-eq0.true)
 
-returns : tie.Need-returns
+returns : tie.Need-returns-then-e-eq0
 returns c = search rules
 
-true-follows-requires : tie.Need-true-follows-requires
+true-follows-requires : tie.Need-true_follows-requires
 true-follows-requires c κs = search rules
 
-returns-2 : tie.Need-returns-2
+returns-2 : tie.Need-returns-then-not-true_follows
 returns-2 c =
     let start = c.before.before.before.before.before.before.before.before.before.before.before in
     let tested = c.before.before.before in
-    turn_halts refl start.pre.0
-    (single_fails _ _ _ _ _ _ _ _ start.pre.0 c.before.before.before.before.before.before.entry_at.ensures tested.before.if1.left tested.true-follows.ensures (not-true tested.true-follows.result c.before.before.if2.taken))
+    turn_halts refl start.requires.0
+    (single_fails _ _ _ _ _ _ _ _ start.requires.0 c.entry_at-e.ensures tested.if-e-eq0.false tested.true_follows.ensures (not-true tested.true_follows.result c.if-not-true_follows.true-raw))
 
 wide-requires : tie.Need-wide-requires
 wide-requires c κs = search rules
 
-insert-requires : tie.Need-insert-requires
+insert-requires : tie.Need-insert-truths-requires
 insert-requires c κs = search rules
 
-add-t16 : tie.Need-add-t16
+add-t16 : tie.Need-overflow_add-result
 add-t16 c = search rules
 
-returns-3 : tie.Need-returns-3
+returns-3 : tie.Need-returns
 returns-3 c =
     let start = c.before.before.before.before.before.before.before.before.before.before.before.before.before in
     let tested = c.before.before.before.before.before in
-    let here = start.pre.0 in
+    let here = start.requires.0 in
     turn_goes refl (omega arith) (omega arith)
-    (single_goes _ _ _ _ _ _ _ _ start.pre.0 c.before.before.before.before.before.before.before.before.entry_at.ensures tested.before.if1.left tested.true-follows.ensures start.pre.1 (not-false tested.true-follows.result c.before.before.before.before.if2.left) c.before.before.before.wide.ensures c.before.before.insert.ensures)
+    (single_goes _ _ _ _ _ _ _ _ start.requires.0 c.entry_at-e.ensures tested.if-e-eq0.false tested.true_follows.ensures start.requires.1 (not-false tested.true_follows.result c.if-not-true_follows.false-raw) c.wide.ensures c.insert-truths.ensures)
 
 pub turn_spec : {M : Type 1} → statement M
 turn_spec =
