@@ -41,6 +41,7 @@ module _ (first rules : List ℕ) where
       go (inr i) rest = let w = rest i in (w.0, Memᴰ.tail w.1, w.2)
 
   pub runs_intro : (ks : List ℕ) (k j : ℕ) → k is_in ks → j is_in run_of first rules k → j is_in runs_of first rules ks
+  runs_intro [] k j x'' m = elim x'' [ ]
   runs_intro (i ∷ ks) k j (Memᴰ.head e) m = rw (runs_first i ks) (Memᴰ.append_left (runs_of first rules ks) (rw e at m))
   runs_intro (i ∷ ks) k j (Memᴰ.tail h) m = rw (runs_first i ks) (Memᴰ.append_right (run_of first rules i) (runs_intro ks k j h m))
 

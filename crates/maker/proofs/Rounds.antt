@@ -43,19 +43,19 @@ with_none [] U h = refl
 with_none (w ∷ W) U h = absurd (omega arith)
 
 module _ (rules : List Rule) (known : ℕ) (F : Set) where
-  pub passes_stand : (facts : Set) {before after : List SheetEntry} {T U : Set} → Passes rules known F before T after U
+  pub passes_stand : (facts : Set) {before : List SheetEntry} {T : Set} {after : List SheetEntry} {U : Set} → Passes rules known F before T after U
       → Stands rules facts known before T F → Stands rules facts known after U F
   passes_stand facts none_yet s = s
   passes_stand facts (one_more {after} {U} p) s = stands_passed known F rules facts [] rules refl after U (passes_stand facts p s)
 
   -- each entry adds a literal
-  pub passes_most : {before after : List SheetEntry} {T U : Set} → Passes rules known F before T after U
+  pub passes_most : {before : List SheetEntry} {T : Set} {after : List SheetEntry} {U : Set} → Passes rules known F before T after U
       → length after + size_below known T ≤ length before + size_below known U
   passes_most none_yet = omega arith
   passes_most (one_more {after} {U} p) =
       omega (arith, passes_most p, passed_most known F 0 rules U, length-append after (passed known F 0 rules U))
 
-  pub passes_grow : {before after : List SheetEntry} {T U : Set} → Passes rules known F before T after U → T ⊆ U
+  pub passes_grow : {before : List SheetEntry} {T : Set} {after : List SheetEntry} {U : Set} → Passes rules known F before T after U → T ⊆ U
   passes_grow none_yet A a = a
   passes_grow (one_more {after} {U} p) A a = with_grows (passed known F 0 rules U) U A (passes_grow p A a)
 
@@ -69,16 +69,16 @@ module _ (rules : List Rule) (known : ℕ) (F : Set) where
           rest (add r.head T) (λ B b. ⊎_elim (λ e. rw (eqb-true B r.head e) (ltb-true r.head known (and_l (ltb r.head known) _ (and_l (ltb r.head known && not (T r.head)) _ y)))) (h B) (or_elim (eqb B r.head) (T B) b)) (rw y at a)
       go (inr y) rest = rest T h (rw y at a)
 
-  pub passes_known : {before after : List SheetEntry} {T U : Set} → Passes rules known F before T after U → ((A : ℕ) → A ∈ T → A < known) → (A : ℕ) → A ∈ U → A < known
+  pub passes_known : {before : List SheetEntry} {T : Set} {after : List SheetEntry} {U : Set} → Passes rules known F before T after U → ((A : ℕ) → A ∈ T → A < known) → (A : ℕ) → A ∈ U → A < known
   passes_known none_yet h A a = h A a
   passes_known (one_more {after} {U} p) h A a = passed_known 0 rules U (λ B b. passes_known p h B b) A a
 
-  pub passes_longer : {before after : List SheetEntry} {T U : Set} → Passes rules known F before T after U → length before ≤ length after
+  pub passes_longer : {before : List SheetEntry} {T : Set} {after : List SheetEntry} {U : Set} → Passes rules known F before T after U → length before ≤ length after
   passes_longer none_yet = omega arith
   passes_longer (one_more {after} {U} p) = omega (arith, passes_longer p, length-append after (passed known F 0 rules U))
 
   -- where nothing is written, no literal is added
-  pub passes_same : {before after : List SheetEntry} {T U : Set} → Passes rules known F before T after U → length after ≤ length before → T ≡ U
+  pub passes_same : {before : List SheetEntry} {T : Set} {after : List SheetEntry} {U : Set} → Passes rules known F before T after U → length after ≤ length before → T ≡ U
   passes_same none_yet h = refl
   passes_same (one_more {after} {U} p) h =
       let all = length-append after (passed known F 0 rules U) in

@@ -8,7 +8,7 @@ use Prim.Native.Nat.{ℕ, ◌+◌, ◌≤◌, ◌<◌}
 use native.Mathlib.Omega.{arith}
 use lib.ListN.{get_or}
 use Rattle.truth.proofs.Truth.{clash}
-use Rattle.wfsx.specs.Sets.{Set, ◌∈◌, ◌∉◌, ◌⊆◌, ∅}
+use Rattle.wfsx.specs.Sets.{Set, ◌∈◌, ◌∉◌, ∅}
 use Rattle.wfsx.specs.Program.{Program}
 use Rattle.wfsx.specs.Model.{headed, head_count}
 use Rattle.wfsx.specs.Trees.{T, TU, tree}

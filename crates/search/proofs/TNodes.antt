@@ -12,7 +12,7 @@ use Rattle.truth.proofs.Truth.{clash}
 use Rattle.wfsx.specs.Sets.{Set, ◌∈◌, ◌∉◌, ∅, add}
 use Rattle.wfsx.specs.Program.{Entry, Program}
 use Rattle.wfsx.specs.Model.{headed, head_count}
-use Rattle.wfsx.specs.Trees.{T, TU, child, tree}
+use Rattle.wfsx.specs.Trees.{T, child, tree}
 use Rattle.wfsx.proofs.Sets.{add_has}
 use Rattle.wfsx.proofs.Ancestors.{t_has, t_fails, t_headless}
 use Rattle.litset.specs.Words.{capacity}

@@ -13,7 +13,7 @@ use lib.ListN.{length, get_or, set, length-set}
 use borrow.Author.Tests.{eq-eqb, ne_eqb}
 use Rattle.truth.proofs.Truth.{clash, contra, not_intro, and_intro}
 use Rattle.truth.proofs.Truth as truth
-use Rattle.wfsx.specs.Sets.{Set, ◌∈◌, ◌∉◌, ◌⊆◌, ∅, add}
+use Rattle.wfsx.specs.Sets.{Set, ◌∈◌, ◌∉◌, ∅, add}
 use Rattle.wfsx.specs.Program.{compl, Entry, default, Program}
 use Rattle.wfsx.specs.Model.{supported, headed}
 use Rattle.wfsx.specs.Trees.{T, TU, child, tree}

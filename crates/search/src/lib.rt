@@ -256,7 +256,7 @@ fn leaf<'a>(first: &'a [u16], rules: &'a [u16], facts: LitSet, mark: u8, b: usiz
 // ---- T-trees
 
 // A node of a T-tree. A literal that fails leaves all that was found below it true, and one that holds is kept for good.
-#[cycle(all_children_child_some_rule_t_node_tu_node_tu_search)]
+#[cycle(walk_trees)]
 fn t_node<'a>(
     first: &'a [u16],
     rules: &'a [u16],
@@ -316,7 +316,7 @@ fn leave_t(t: &mut [u8; litset::CAPACITY], tu: &mut [u8; litset::CAPACITY], a: u
 
 // The TU-trees for a literal. A T-tree that one of them waits for is opened from here, and the walk begun again with what is then known: so
 // no path of a TU-tree stands above a T-tree, and the stack is linear in the literals.
-#[cycle(all_children_child_some_rule_t_node_tu_node_tu_search)]
+#[cycle(walk_trees)]
 fn tu_search<'a>(
     first: &'a [u16],
     rules: &'a [u16],
@@ -352,7 +352,7 @@ fn tu_search<'a>(
 }
 
 // A node of a TU-tree. The added leaf, `not` of the complement, is asked for once and not under each rule (`complement_once`).
-#[cycle(all_children_child_some_rule_t_node_tu_node_tu_search)]
+#[cycle(walk_trees)]
 fn tu_node<'a>(
     first: &'a [u16],
     rules: &'a [u16],
@@ -415,7 +415,7 @@ fn leave_tu(tu: &mut [u8; litset::CAPACITY], a: usize, f: Finding)
 // ---- the rules and the entries of either tree
 
 // Whether all children under some rule for `a` hold.
-#[cycle(all_children_child_some_rule_t_node_tu_node_tu_search)]
+#[cycle(walk_trees)]
 fn some_rule<'a>(
     first: &'a [u16],
     rules: &'a [u16],
@@ -448,7 +448,7 @@ fn some_rule<'a>(
 }
 
 // Whether all children under rule `i` hold.
-#[cycle(all_children_child_some_rule_t_node_tu_node_tu_search)]
+#[cycle(walk_trees)]
 fn all_children<'a>(
     first: &'a [u16],
     rules: &'a [u16],
@@ -482,7 +482,7 @@ fn all_children<'a>(
 
 // A child of a node. In a T-tree the second way of a leaf, a T-tree for the complement, is left out: it follows from the first
 // (`first_way`). A leaf of a TU-tree opens nothing itself.
-#[cycle(all_children_child_some_rule_t_node_tu_node_tu_search)]
+#[cycle(walk_trees)]
 fn child<'a>(
     first: &'a [u16],
     rules: &'a [u16],

@@ -4,27 +4,27 @@ use Rattle.desk.proofs.LoadLaws.{load_accepted, load_refused}
 use Rattle.desk.proofs.load.Statement.{statement}
 use Rattle.desk.proofs.load.Tie as tie
 
-read-requires : tie.Need-read-requires
+read-requires : tie.Need-read-read-requires
 read-requires c κs = search rules
 
-enum_told : tie.Need-enum-told
+enum_told : tie.Need-enum_told-1
 enum_told c = search rules
 
 begun-requires : tie.Need-begun-requires
 begun-requires c κs = search rules
 
-returns : tie.Need-returns
+returns : tie.Need-returns-in-Accepted
 returns c =
-    let read = c.before.before.before.before.read in
-    load_accepted _ read.result _ read.ensures c.before.before.enum_told.given.1 c.begun.result c.begun.ensures
+    let read = c.read-read in
+    load_accepted _ read.result _ read.ensures c.in-Accepted.is c.begun.result c.begun.ensures
 
-enum-known-answer : tie.Need-enum-known-answer
+enum-known-answer : tie.Need-enum_known-answer
 enum-known-answer c = search rules
 
-returns-2 : tie.Need-returns-2
+returns-2 : tie.Need-returns-in-Refused
 returns-2 c =
-    let read = c.before.before.before.read in
-    load_refused _ read.result _ read.ensures _ _ c.before.answer.given.1
+    let read = c.read-read in
+    load_refused _ read.result _ read.ensures _ _ c.in-Refused.is
 
 pub load_spec : {M : Type 1} → statement M
 load_spec =

@@ -14,11 +14,11 @@ use Rattle.fixpoint.proofs.Tables.{Going, going_start, going_end, going_passed, 
 use Rattle.fixpoint.proofs.add_heads.Statement.{statement}
 use Rattle.fixpoint.proofs.add_heads.Tie as tie
 
-abbrev invariant-loop : tie.invariant-loop
+abbrev invariant-loop : tie.invariant-loop-j
 invariant-loop heads starts entries numbers s y done p₀ r head j₀ end p j =
     (p ≡ p₀) × BodyLeft (holds (set_of y.words) (set_of s.words)) starts entries r j
 
-abbrev decreases-loop : tie.decreases-loop
+abbrev decreases-loop : tie.decreases-loop-j
 decreases-loop heads starts entries numbers s y done p₀ r head j₀ end p j = end - j
 
 abbrev invariant-rules : tie.invariant-rules
@@ -28,111 +28,111 @@ invariant-rules heads starts entries numbers s y₀ done₀ p₀ y done p =
 abbrev decreases-rules : tie.decreases-rules
 decreases-rules heads starts entries numbers s y₀ done₀ p₀ y done p = length numbers - p
 
-union-requires : tie.Need-union-requires invariant-loop decreases-loop invariant-rules decreases-rules
+union-requires : tie.Need-union-done-requires invariant-loop decreases-loop invariant-rules decreases-rules
 union-requires c κs = search rules
 
 rules-holds : tie.Need-rules-init invariant-loop decreases-loop invariant-rules decreases-rules
-rules-holds c = going_start _ c.union.ensures
+rules-holds c = going_start _ c.union-done.ensures
 
-mul_wide : tie.Need-overflow-mul-wide invariant-loop decreases-loop invariant-rules decreases-rules
+mul_wide : tie.Need-offset_bounds-numbers-p invariant-loop decreases-loop invariant-rules decreases-rules
 mul_wide c = search rules
 
-shared-slice-read-wide : tie.Need-shared-slice-read-wide invariant-loop decreases-loop invariant-rules decreases-rules
+shared-slice-read-wide : tie.Need-bounds-numbers-p invariant-loop decreases-loop invariant-rules decreases-rules
 shared-slice-read-wide c = search rules
 
-wide-requires : tie.Need-wide-requires invariant-loop decreases-loop invariant-rules decreases-rules
+wide-requires : tie.Need-wide-r-requires invariant-loop decreases-loop invariant-rules decreases-rules
 wide-requires c κs = search rules
 
-head-at-requires : tie.Need-head-at-requires invariant-loop decreases-loop invariant-rules decreases-rules
+head-at-requires : tie.Need-head_at-head-requires invariant-loop decreases-loop invariant-rules decreases-rules
 head-at-requires c κs = search rules
 
 contains-requires : tie.Need-contains-requires invariant-loop decreases-loop invariant-rules decreases-rules
 contains-requires c κs = search rules
 
-add-p : tie.Need-overflow-add-p invariant-loop decreases-loop invariant-rules decreases-rules
+add-p : tie.Need-overflow_add-p invariant-loop decreases-loop invariant-rules decreases-rules
 add-p c = search rules
 
-rules-less : tie.Need-rules-smaller invariant-loop decreases-loop invariant-rules decreases-rules
+rules-less : tie.Need-rules-smaller-then-contains invariant-loop decreases-loop invariant-rules decreases-rules
 rules-less c = search rules
 
-rules-again : tie.Need-rules-preserved invariant-loop decreases-loop invariant-rules decreases-rules
+rules-again : tie.Need-rules-preserved-then-contains invariant-loop decreases-loop invariant-rules decreases-rules
 rules-again c =
     let number = c.before.before.before in
     let turn = number.before.before in
-    going_passed turn.before.rules.invariant turn.rules-test.true number.wide.ensures c.before.before.head_at.ensures (sym c.before.contains.ensures ∙ c.if1.true)
+    going_passed turn.rules.invariant turn.rules-test.true number.wide-r.ensures c.head_at-head.ensures (sym c.contains.ensures ∙ c.if-contains.true)
 
-body-start-requires : tie.Need-body-start-requires invariant-loop decreases-loop invariant-rules decreases-rules
+body-start-requires : tie.Need-body_start-j-requires invariant-loop decreases-loop invariant-rules decreases-rules
 body-start-requires c κs = search rules
 
-body-end-requires : tie.Need-body-end-requires invariant-loop decreases-loop invariant-rules decreases-rules
+body-end-requires : tie.Need-body_end-end-requires invariant-loop decreases-loop invariant-rules decreases-rules
 body-end-requires c κs = search rules
 
-loop-holds : tie.Need-loop-init invariant-loop decreases-loop invariant-rules decreases-rules
-loop-holds c = (refl, body_first c.before.body-start.ensures)
+loop-holds : tie.Need-loop-j-init invariant-loop decreases-loop invariant-rules decreases-rules
+loop-holds c = (refl, body_first c.body_start-j.ensures)
 
-entry-at-requires : tie.Need-entry-at-requires invariant-loop decreases-loop invariant-rules decreases-rules
+entry-at-requires : tie.Need-entry_at-requires invariant-loop decreases-loop invariant-rules decreases-rules
 entry-at-requires c κs = search rules
 
-entry-holds-requires : tie.Need-entry-holds-requires invariant-loop decreases-loop invariant-rules decreases-rules
+entry-holds-requires : tie.Need-entry_holds-requires invariant-loop decreases-loop invariant-rules decreases-rules
 entry-holds-requires c κs = search rules
 
-add-p-2 : tie.Need-overflow-add-p-2 invariant-loop decreases-loop invariant-rules decreases-rules
+add-p-2 : tie.Need-overflow_add-p-then-not-entry_holds invariant-loop decreases-loop invariant-rules decreases-rules
 add-p-2 c = search rules
 
-rules-less-2 : tie.Need-rules-smaller-2 invariant-loop decreases-loop invariant-rules decreases-rules
+rules-less-2 : tie.Need-rules-smaller-then-not-entry_holds invariant-loop decreases-loop invariant-rules decreases-rules
 rules-less-2 c = search rules
 
-rules-again-2 : tie.Need-rules-preserved-2 invariant-loop decreases-loop invariant-rules decreases-rules
+rules-again-2 : tie.Need-rules-preserved-then-not-entry_holds invariant-loop decreases-loop invariant-rules decreases-rules
 rules-again-2 c =
     let inner = c.before.before.before.before in
     let number = inner.before.before.before.before.before.before in
     let turn = number.before.before in
-    let end = inner.before.body-end.ensures in
-    rw inner.loop.invariant.0
-    (going_fails turn.before.rules.invariant turn.rules-test.true number.wide.ensures (body_fails inner.loop.invariant.1 (omega arith) (rw (← c.before.before.entry_at.ensures) (sym c.before.entry-holds.ensures ∙ not-true c.before.entry-holds.result c.if2.true))))
+    let end = inner.body_end-end.ensures in
+    rw inner.loop-j.invariant.0
+    (going_fails turn.rules.invariant turn.rules-test.true number.wide-r.ensures (body_fails inner.loop-j.invariant.1 (omega arith) (rw (← c.entry_at.ensures) (sym c.entry_holds.ensures ∙ not-true c.entry_holds.result c.if-not-entry_holds.true-raw))))
 
-add-j : tie.Need-overflow-add-j invariant-loop decreases-loop invariant-rules decreases-rules
+add-j : tie.Need-overflow_add-j invariant-loop decreases-loop invariant-rules decreases-rules
 add-j c = search rules
 
-loop-less : tie.Need-loop-smaller invariant-loop decreases-loop invariant-rules decreases-rules
+loop-less : tie.Need-loop-j-smaller invariant-loop decreases-loop invariant-rules decreases-rules
 loop-less c = search rules
 
-loop-again : tie.Need-loop-preserved invariant-loop decreases-loop invariant-rules decreases-rules
+loop-again : tie.Need-loop-j-preserved invariant-loop decreases-loop invariant-rules decreases-rules
 loop-again c =
     let inner = c.before.before.before.before in
-    let end = inner.before.body-end.ensures in
-    (inner.loop.invariant.0, body_more inner.loop.invariant.1 (omega arith) (rw (← c.before.before.entry_at.ensures) (sym c.before.entry-holds.ensures ∙ not-false c.before.entry-holds.result c.if2.false)))
+    let end = inner.body_end-end.ensures in
+    (inner.loop-j.invariant.0, body_more inner.loop-j.invariant.1 (omega arith) (rw (← c.entry_at.ensures) (sym c.entry_holds.ensures ∙ not-false c.entry_holds.result c.if-not-entry_holds.false-raw)))
 
-insert-requires : tie.Need-insert-requires invariant-loop decreases-loop invariant-rules decreases-rules
+insert-requires : tie.Need-insert-y-requires invariant-loop decreases-loop invariant-rules decreases-rules
 insert-requires c κs = search rules
 
-insert-requires-2 : tie.Need-insert-requires-2 invariant-loop decreases-loop invariant-rules decreases-rules
+insert-requires-2 : tie.Need-insert-done-requires invariant-loop decreases-loop invariant-rules decreases-rules
 insert-requires-2 c κs = search rules
 
-add-p-3 : tie.Need-overflow-add-p-3 invariant-loop decreases-loop invariant-rules decreases-rules
+add-p-3 : tie.Need-overflow_add-p-in-rules invariant-loop decreases-loop invariant-rules decreases-rules
 add-p-3 c = search rules
 
-rules-less-3 : tie.Need-rules-smaller-3 invariant-loop decreases-loop invariant-rules decreases-rules
+rules-less-3 : tie.Need-rules-smaller invariant-loop decreases-loop invariant-rules decreases-rules
 rules-less-3 c = search rules
 
-rules-again-3 : tie.Need-rules-preserved-3 invariant-loop decreases-loop invariant-rules decreases-rules
+rules-again-3 : tie.Need-rules-preserved invariant-loop decreases-loop invariant-rules decreases-rules
 rules-again-3 c =
     let inner = c.before.before.before in
     let tested = inner.before.before.before in
     let number = tested.before.before.before in
     let turn = number.before.before in
-    let end = inner.before.body-end.ensures in
-    let all = body_over inner.loop.invariant.1 (omega arith) in
-    rw inner.loop.invariant.0
-    (going_fires turn.before.rules.invariant turn.rules-test.true number.wide.ensures tested.before.before.head_at.ensures (sym tested.before.contains.ensures ∙ tested.if1.false) all c.before.insert.ensures c.insert2.ensures)
+    let end = inner.body_end-end.ensures in
+    let all = body_over inner.loop-j.invariant.1 (omega arith) in
+    rw inner.loop-j.invariant.0
+    (going_fires turn.rules.invariant turn.rules-test.true number.wide-r.ensures tested.head_at-head.ensures (sym tested.contains.ensures ∙ tested.if-contains.false) all c.insert-y.ensures c.insert-done.ensures)
 
 returns : tie.Need-returns invariant-loop decreases-loop invariant-rules decreases-rules
 returns c =
     let start = c.before.before in
-    going_end c.before.rules.invariant c.rules-test.false ∙ pass_there_shut _ _ _ _ _ _ start.union.ensures (λ A a. a)
+    going_end c.rules.invariant c.rules-test.false ∙ pass_there_shut _ _ _ _ _ _ start.union-done.ensures (λ A a. a)
 
-pub add-heads-spec : {M : Type 1} → statement M
-add-heads-spec =
+pub add_heads_spec : {M : Type 1} → statement M
+add_heads_spec =
     tie.close
     (tie.spec
     invariant-loop

@@ -13,35 +13,35 @@ use borrow.Author.Rules.{rules}
 use Rattle.fixpoint.proofs.all_numbers.Statement.{statement}
 use Rattle.fixpoint.proofs.all_numbers.Tie as tie
 
-abbrev invariant-loop : tie.invariant-loop
+abbrev invariant-loop : tie.invariant-loop-k
 invariant-loop count numbers₀ k₀ numbers k = (k ≤ count) × (length numbers ≡ max_rules) × (take k numbers ≡ rows (λ j. j) 0 k)
 
-abbrev decreases-loop : tie.decreases-loop
+abbrev decreases-loop : tie.decreases-loop-k
 decreases-loop count numbers₀ k₀ numbers k = count - k
 
-loop-holds : tie.Need-loop-init invariant-loop decreases-loop
+loop-holds : tie.Need-loop-k-init invariant-loop decreases-loop
 loop-holds c = (omega arith, search rules, sym (rows_none (λ j. j) 0))
 
-cast-numbers : tie.Need-overflow-cast-numbers invariant-loop decreases-loop
+cast-numbers : tie.Need-overflow_cast-numbers invariant-loop decreases-loop
 cast-numbers c = search rules
 
-mul-numbers : tie.Need-overflow-mul-numbers invariant-loop decreases-loop
+mul-numbers : tie.Need-offset_bounds-numbers-k invariant-loop decreases-loop
 mul-numbers c = search rules
 
-array-write-numbers : tie.Need-array-write-numbers invariant-loop decreases-loop
+array-write-numbers : tie.Need-bounds-numbers-k invariant-loop decreases-loop
 array-write-numbers c = search rules
 
-add-k : tie.Need-overflow-add-k invariant-loop decreases-loop
+add-k : tie.Need-overflow_add-k invariant-loop decreases-loop
 add-k c = search rules
 
-loop-less : tie.Need-loop-smaller invariant-loop decreases-loop
+loop-less : tie.Need-loop-k-smaller invariant-loop decreases-loop
 loop-less c = search rules
 
-loop-again : tie.Need-loop-preserved invariant-loop decreases-loop
+loop-again : tie.Need-loop-k-preserved invariant-loop decreases-loop
 loop-again c =
-    let turn = c.before.loop in
+    let turn = c.loop-k in
     let k = turn.k in
-    let inside : k < length turn.numbers = omega (arith, turn.invariant.1, c.before.before.requires) in
+    let inside : k < length turn.numbers = omega (arith, turn.invariant.1, c.requires) in
     let sum : 0 + k ≡ k = omega arith in (
       omega arith,
       length-set turn.numbers k k ∙ turn.invariant.1,
@@ -51,11 +51,11 @@ loop-again c =
 
 returns : tie.Need-returns invariant-loop decreases-loop
 returns c =
-    let all : c.before.loop.k ≡ c.before.before.args.count = omega arith in
-    rw all at c.before.loop.invariant.2
+    let all : c.loop-k.k ≡ c.args.count = omega arith in
+    rw all at c.loop-k.invariant.2
 
-pub all-numbers-spec : {M : Type 1} → statement M
-all-numbers-spec =
+pub all_numbers_spec : {M : Type 1} → statement M
+all_numbers_spec =
     tie.close
     (tie.spec
     invariant-loop

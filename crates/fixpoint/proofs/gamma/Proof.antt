@@ -11,32 +11,32 @@ use Rattle.fixpoint.proofs.Settled.{starts_empty}
 use Rattle.fixpoint.proofs.gamma.Statement.{statement}
 use Rattle.fixpoint.proofs.gamma.Tie as tie
 
-rule-count-requires : tie.Need-rule-count-requires
+rule-count-requires : tie.Need-rule_count-count-requires
 rule-count-requires c κs = search rules
 
-all-numbers-requires : tie.Need-all-numbers-requires
+all-numbers-requires : tie.Need-all_numbers-numbers-requires
 all-numbers-requires c κs = search rules
 
-array-share-prefix-numbers : tie.Need-array-share-prefix-numbers
+array-share-prefix-numbers : tie.Need-slice_bounds-numbers-end
 array-share-prefix-numbers c = search rules
 
-slice-aggregate-first : tie.Need-slice-aggregate-first
-slice-aggregate-first c = sym (ap length c.before.all-numbers.ensures ∙ rows_length (λ k. k) 0 _)
+slice-aggregate-first : tie.Need-slice_bounds-first-end
+slice-aggregate-first c = sym (ap length c.all_numbers-numbers.ensures ∙ rows_length (λ k. k) 0 _)
 
 empty-requires : tie.Need-empty-requires
 empty-requires c κs = search rules
 
-gamma-above-requires : tie.Need-gamma-above-requires
+gamma-above-requires : tie.Need-gamma_above-r-requires
 gamma-above-requires c κs = starts_empty c.empty.ensures _
 
 returns : tie.Need-returns
 returns c =
     let numbers = c.before.before.before.before.before.before.before.before.before.before in
-    let args = numbers.before.before.args in
-    c.gamma-above.ensures ∙ ap (λ (P : Program). Γ P (set_of args.s.words)) (book_program args.t1 (set_of args.facts.words) numbers.before.rule-count.ensures numbers.all-numbers.ensures)
+    let args = numbers.args in
+    c.gamma_above-r.ensures ∙ ap (λ (P : Program). Γ P (set_of args.s.words)) (book_program args.book (set_of args.facts.words) c.rule_count-count.ensures c.all_numbers-numbers.ensures)
 
-pub gamma-spec : {M : Type 1} → statement M
-gamma-spec =
+pub gamma_spec : {M : Type 1} → statement M
+gamma_spec =
     tie.close
     (tie.spec
     rule-count-requires

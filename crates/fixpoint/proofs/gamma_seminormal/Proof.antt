@@ -8,13 +8,13 @@ use Rattle.fixpoint.proofs.Growth.{from_open}
 use Rattle.fixpoint.proofs.gamma_seminormal.Statement.{statement}
 use Rattle.fixpoint.proofs.gamma_seminormal.Tie as tie
 
-complements-requires : tie.Need-complements-requires
+complements-requires : tie.Need-complements-shut-requires
 complements-requires c κs = search rules
 
-difference-requires : tie.Need-difference-requires
+difference-requires : tie.Need-difference-start-requires
 difference-requires c κs = search rules
 
-least-closed-requires : tie.Need-least-closed-requires
+least-closed-requires : tie.Need-least_closed-requires
 least-closed-requires c κs = search rules
 
 facts-size : (c : tie.Start) → length c.args.facts.words ≡ n_words
@@ -25,10 +25,10 @@ returns c =
     let opened = c.before in
     let start = opened.before.before.before.before.before.before in
     let facts = start.args.facts.words in
-    let fewer : length opened.difference.result.words ≡ n_words = search rules in
-    c.least-closed.ensures
-    ∙ from_open _ (set_of facts) (member_room facts (facts-size start)) _ opened.before.complements.ensures opened.difference.ensures (member_room opened.difference.result.words fewer)
+    let fewer : length opened.difference-start.result.words ≡ n_words = search rules in
+    c.least_closed.ensures
+    ∙ from_open _ (set_of facts) (member_room facts (facts-size start)) _ opened.complements-shut.ensures opened.difference-start.ensures (member_room opened.difference-start.result.words fewer)
 
-pub gamma-seminormal-spec : {M : Type 1} → statement M
-gamma-seminormal-spec =
+pub gamma_seminormal_spec : {M : Type 1} → statement M
+gamma_seminormal_spec =
     tie.close (tie.spec complements-requires difference-requires least-closed-requires returns)

@@ -11,33 +11,33 @@ use Rattle.fixpoint.proofs.Settled.{starts_empty, model_settled}
 use Rattle.fixpoint.proofs.model_of.Statement.{statement}
 use Rattle.fixpoint.proofs.model_of.Tie as tie
 
-rule-count-requires : tie.Need-rule-count-requires
+rule-count-requires : tie.Need-rule_count-count-requires
 rule-count-requires c κs = search rules
 
-all-numbers-requires : tie.Need-all-numbers-requires
+all-numbers-requires : tie.Need-all_numbers-numbers-requires
 all-numbers-requires c κs = search rules
 
-array-share-prefix-numbers : tie.Need-array-share-prefix-numbers
+array-share-prefix-numbers : tie.Need-slice_bounds-numbers-end
 array-share-prefix-numbers c = search rules
 
-slice-aggregate-first : tie.Need-slice-aggregate-first
-slice-aggregate-first c = sym (ap length c.before.all-numbers.ensures ∙ rows_length (λ k. k) 0 _)
+slice-aggregate-first : tie.Need-slice_bounds-first-end
+slice-aggregate-first c = sym (ap length c.all_numbers-numbers.ensures ∙ rows_length (λ k. k) 0 _)
 
 empty-requires : tie.Need-empty-requires
 empty-requires c κs = search rules
 
-settle-requires : tie.Need-settle-requires
+settle-requires : tie.Need-settle-m-requires
 settle-requires c κs = starts_empty c.empty.ensures _
 
 returns : tie.Need-returns
 returns c =
     let numbers = c.before.before.before.before.before.before.before.before.before.before in
-    let args = numbers.before.before.args in
-    subst (λ (P : Program). ModelOf P c.settle.result) (book_program args.t1 (set_of args.facts.words) numbers.before.rule-count.ensures numbers.all-numbers.ensures)
-    (model_settled _ c.settle.result (rw c.before.empty.ensures at c.settle.ensures))
+    let args = numbers.args in
+    subst (λ (P : Program). ModelOf P c.settle-m.result) (book_program args.book (set_of args.facts.words) c.rule_count-count.ensures c.all_numbers-numbers.ensures)
+    (model_settled _ c.settle-m.result (rw c.empty.ensures at c.settle-m.ensures))
 
-pub model-of-spec : {M : Type 1} → statement M
-model-of-spec =
+pub model_of_spec : {M : Type 1} → statement M
+model_of_spec =
     tie.close
     (tie.spec
     rule-count-requires

@@ -11,20 +11,20 @@ use Rattle.fixpoint.proofs.Settled.{facts_inside, step_settled}
 use Rattle.fixpoint.proofs.step.Statement.{statement}
 use Rattle.fixpoint.proofs.step.Tie as tie
 
-abbrev rules : tie.Start → List Rule
-rules c = rules_numbered c.args.heads.now c.args.starts.now c.args.entries.now c.args.numbers.now
+abbrev its_rules : tie.Start → List Rule
+its_rules c = rules_numbered c.args.heads.now c.args.starts.now c.args.entries.now c.args.numbers.now
 
-union-requires : tie.Need-union-requires
+union-requires : tie.Need-union-known-requires
 union-requires c κs = search rules
 
-union-requires-2 : tie.Need-union-requires-2
+union-requires-2 : tie.Need-union-possible-requires
 union-requires-2 c κs = search rules
 
-settle-requires : tie.Need-settle-requires
+settle-requires : tie.Need-settle-m-requires
 settle-requires c κs =
-    let ws = c.before.union.result.words in
+    let ws = c.union-known.result.words in
     let size : length ws ≡ n_words = search rules in
-    facts_inside (rules c.before.before.before.before.before.before) (set_of ws) (member_room ws size) _
+    facts_inside (its_rules c.before.before.before.before.before.before.before.before) (set_of ws) (member_room ws size) _
 
 facts-size : (c : tie.Start) → length c.args.facts.words ≡ n_words
 facts-size c = search rules
@@ -38,10 +38,10 @@ nonfalse-size c = search rules
 returns : tie.Need-returns
 returns c =
     let known = c.before.before.before.before in
-    let start = known.before.before.before.before.before in
+    let start = known.before.before.before.before.before.before.before in
     let before = start.args.before in
-    let settled = c.before.before.settle in
-    step_settled (rules start) (set_of start.args.facts.words) (member_room _ (facts-size start)) before (member_room _ (truths-size start)) (member_room _ (nonfalse-size start)) known.union.ensures c.before.before.before.union2.ensures settled.result settled.ensures
+    let settled = c.settle-m in
+    step_settled (its_rules start) (set_of start.args.facts.words) (member_room _ (facts-size start)) before (member_room _ (truths-size start)) (member_room _ (nonfalse-size start)) known.union-known.ensures c.union-possible.ensures settled.result settled.ensures
 
 pub step_spec : {M : Type 1} → statement M
 step_spec = tie.close (tie.spec union-requires union-requires-2 settle-requires returns)

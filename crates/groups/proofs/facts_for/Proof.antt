@@ -9,46 +9,46 @@ use borrow.Author.Rules.{rules}
 use Rattle.groups.proofs.facts_for.Statement.{statement}
 use Rattle.groups.proofs.facts_for.Tie as tie
 
-abbrev invariant-loop : tie.invariant-loop
+abbrev invariant-loop : tie.invariant-loop-i
 invariant-loop names facts literals₀ i₀ literals i = Marked names i (set_of literals.words)
 
-abbrev decreases-loop : tie.decreases-loop
+abbrev decreases-loop : tie.decreases-loop-i
 decreases-loop names facts literals₀ i₀ literals i = length names - i
 
-empty-requires : tie.Need-empty-requires invariant-loop decreases-loop
+empty-requires : tie.Need-empty-literals-requires invariant-loop decreases-loop
 empty-requires c κs = search rules
 
-loop-holds : tie.Need-loop-init invariant-loop decreases-loop
-loop-holds c = marked_start c.empty.ensures
+loop-holds : tie.Need-loop-i-init invariant-loop decreases-loop
+loop-holds c = marked_start c.empty-literals.ensures
 
-mul-first-literal : tie.Need-overflow-mul-first-literal invariant-loop decreases-loop
+mul-first-literal : tie.Need-offset_bounds-names-i invariant-loop decreases-loop
 mul-first-literal c = search rules
 
-shared-slice-read-first-literal : tie.Need-shared-slice-read-first-literal invariant-loop decreases-loop
+shared-slice-read-first-literal : tie.Need-bounds-names-i invariant-loop decreases-loop
 shared-slice-read-first-literal c = search rules
 
-first-literal-requires : tie.Need-first-literal-requires invariant-loop decreases-loop
+first-literal-requires : tie.Need-first_literal-a-requires invariant-loop decreases-loop
 first-literal-requires c κs = search rules
 
 insert-requires : tie.Need-insert-requires invariant-loop decreases-loop
 insert-requires c κs = search rules
 
-add-insert : tie.Need-overflow-add-insert invariant-loop decreases-loop
+add-insert : tie.Need-overflow_add-a invariant-loop decreases-loop
 add-insert c = search rules
 
-insert-requires-2 : tie.Need-insert-requires-2 invariant-loop decreases-loop
+insert-requires-2 : tie.Need-insert-literals-requires invariant-loop decreases-loop
 insert-requires-2 c κs = search rules
 
-add-i : tie.Need-overflow-add-i invariant-loop decreases-loop
+add-i : tie.Need-overflow_add-i invariant-loop decreases-loop
 add-i c = search rules
 
-loop-less : tie.Need-loop-smaller invariant-loop decreases-loop
+loop-less : tie.Need-loop-i-smaller invariant-loop decreases-loop
 loop-less c = search rules
 
-loop-again : tie.Need-loop-preserved invariant-loop decreases-loop
+loop-again : tie.Need-loop-i-preserved invariant-loop decreases-loop
 loop-again c =
     let turn = c.before.before.before.before.before in
-    marked_more turn.loop.invariant c.before.before.before.before.loop-test.true c.before.before.first-literal.ensures.0 c.before.insert.ensures c.insert2.ensures
+    marked_more turn.loop-i.invariant c.loop-i-test.true c.first_literal-a.ensures.0 c.insert.ensures c.insert-literals.ensures
 
 difference-requires : tie.Need-difference-requires invariant-loop decreases-loop
 difference-requires c κs = search rules
@@ -63,10 +63,10 @@ returns : tie.Need-returns invariant-loop decreases-loop
 returns c =
     let ended = c.before.before in
     let start = ended.before.before.before.before in
-    marked_end ended.before.loop.invariant ended.loop-test.false (member_room _ (facts-size start)) c.before.difference.ensures c.difference2.ensures
+    marked_end ended.loop-i.invariant ended.loop-i-test.false (member_room _ (facts-size start)) c.difference.ensures c.difference-2.ensures
 
-pub facts-for-spec : {M : Type 1} → statement M
-facts-for-spec =
+pub facts_for_spec : {M : Type 1} → statement M
+facts_for_spec =
     tie.close
     (tie.spec
     invariant-loop

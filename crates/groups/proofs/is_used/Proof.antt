@@ -7,41 +7,41 @@ use lib.Dec.{eqb}
 use Rattle.groups.proofs.is_used.Statement.{statement}
 use Rattle.groups.proofs.is_used.Tie as tie
 
-mul-rules-start : tie.Need-overflow-mul-rules-start
+mul-rules-start : tie.Need-overflow_mul-k
 mul-rules-start c = search rules
 
-rules-start-requires : tie.Need-rules-start-requires
+rules-start-requires : tie.Need-rules_start-from-requires
 rules-start-requires c κs = search rules
 
-mul-rules-start-2 : tie.Need-overflow-mul-rules-start-2
+mul-rules-start-2 : tie.Need-overflow_mul-k-2
 mul-rules-start-2 c = search rules
 
-add-rules-start : tie.Need-overflow-add-rules-start
+add-rules-start : tie.Need-overflow_add-k
 add-rules-start c = search rules
 
-rules-start-requires-2 : tie.Need-rules-start-requires-2
+rules-start-requires-2 : tie.Need-rules_start-end-requires
 rules-start-requires-2 c κs = search rules
 
-mul-contains : tie.Need-overflow-mul-contains
+mul-contains : tie.Need-overflow_mul-k-3
 mul-contains c = search rules
 
 contains-requires : tie.Need-contains-requires
 contains-requires c κs = search rules
 
-mul-contains-2 : tie.Need-overflow-mul-contains-2
+mul-contains-2 : tie.Need-overflow_mul-k-4
 mul-contains-2 c = search rules
 
-add-contains : tie.Need-overflow-add-contains
+add-contains : tie.Need-overflow_add-k-2
 add-contains c = search rules
 
 contains-requires-2 : tie.Need-contains-requires-2
 contains-requires-2 c κs = search rules
 
 returns : tie.Need-returns
-returns c = ap₂ (λ (s t : Bool). s || t) (ap₂ (λ (x y : ℕ). not (eqb x y)) c.before.before.before.rules-start.ensures c.before.before.rules-start2.ensures) (ap₂ (λ (s t : Bool). s || t) c.before.contains.ensures c.contains2.ensures)
+returns c = ap₂ (λ (s t : Bool). s || t) (ap₂ (λ (x y : ℕ). not (eqb x y)) c.rules_start-from.ensures c.rules_start-end.ensures) (ap₂ (λ (s t : Bool). s || t) c.contains.ensures c.contains-2.ensures)
 
-pub is-used-spec : {M : Type 1} → statement M
-is-used-spec =
+pub is_used_spec : {M : Type 1} → statement M
+is_used_spec =
     tie.close
     (tie.spec
     mul-rules-start

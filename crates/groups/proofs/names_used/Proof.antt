@@ -9,41 +9,41 @@ use native.Mathlib.Omega.{arith}
 use Rattle.groups.proofs.names_used.Statement.{statement}
 use Rattle.groups.proofs.names_used.Tie as tie
 
-abbrev invariant-loop : tie.invariant-loop
+abbrev invariant-loop : tie.invariant-loop-n
 invariant-loop first names facts n₀ n = UsedBelow first (set_of facts.words) n
 
-abbrev decreases-loop : tie.decreases-loop
+abbrev decreases-loop : tie.decreases-loop-n
 decreases-loop first names facts n₀ n = n
 
-loop-holds : tie.Need-loop-init invariant-loop decreases-loop
+loop-holds : tie.Need-loop-n-init invariant-loop decreases-loop
 loop-holds c = used_start _ _
 
-sub-is-used : tie.Need-overflow-sub-is-used invariant-loop decreases-loop
+sub-is-used : tie.Need-overflow_sub-n invariant-loop decreases-loop
 sub-is-used c = search rules
 
-is-used-requires : tie.Need-is-used-requires invariant-loop decreases-loop
+is-used-requires : tie.Need-is_used-requires invariant-loop decreases-loop
 is-used-requires c κs = search rules
 
-returns : tie.Need-returns invariant-loop decreases-loop
-returns c = c.before.before.before.loop.invariant
+returns : tie.Need-returns-then-is_used invariant-loop decreases-loop
+returns c = c.loop-n.invariant
 
-sub-n : tie.Need-overflow-sub-n invariant-loop decreases-loop
+sub-n : tie.Need-overflow_sub-n-in-loop-n invariant-loop decreases-loop
 sub-n c = search rules
 
-loop-less : tie.Need-loop-smaller invariant-loop decreases-loop
+loop-less : tie.Need-loop-n-smaller invariant-loop decreases-loop
 loop-less c = search rules
 
-loop-again : tie.Need-loop-preserved invariant-loop decreases-loop
+loop-again : tie.Need-loop-n-preserved invariant-loop decreases-loop
 loop-again c =
     let turn = c.before.before.before in
-    let one : turn.loop.n - 1 + 1 ≡ turn.loop.n = omega arith in
-    used_fewer (rw one turn.loop.invariant) (sym c.before.is-used.ensures ∙ c.if1.false)
+    let one : turn.loop-n.n - 1 + 1 ≡ turn.loop-n.n = omega arith in
+    used_fewer (rw one turn.loop-n.invariant) (sym c.is_used.ensures ∙ c.if-is_used.false)
 
-returns-2 : tie.Need-returns-2 invariant-loop decreases-loop
-returns-2 c = c.before.loop.invariant
+returns-2 : tie.Need-returns invariant-loop decreases-loop
+returns-2 c = c.loop-n.invariant
 
-pub names-used-spec : {M : Type 1} → statement M
-names-used-spec =
+pub names_used_spec : {M : Type 1} → statement M
+names_used_spec =
     tie.close
     (tie.spec
     invariant-loop

@@ -6,5 +6,5 @@ use Rattle.lesson.proofs.in_force.Tie as tie
 returns : tie.Need-returns
 returns c = force_is _
 
-pub in-force-spec : {M : Type 1} → statement M
-in-force-spec = tie.close (tie.spec returns)
+pub in_force_spec : {M : Type 1} → statement M
+in_force_spec = tie.close (tie.spec returns)

@@ -4,36 +4,31 @@ use Rattle.lesson.proofs.Listings.{preview_listed, preview_refused}
 use Rattle.lesson.proofs.preview.Statement.{statement}
 use Rattle.lesson.proofs.preview.Tie as tie
 
-change-facts-requires : tie.Need-change-facts-requires
+change-facts-requires : tie.Need-change_facts-copy-requires
 change-facts-requires c κs = search rules
 
-enum_told : tie.Need-enum-told
+enum_told : tie.Need-enum_told-1
 enum_told c = search rules
 
 listing-requires : tie.Need-listing-requires
 listing-requires c κs = search rules
 
-same_length : tie.Need-same-length
+same_length : tie.Need-shape_of-buffer-in-Done
 same_length c = search rules
 
-returns : tie.Need-returns
+returns : tie.Need-returns-in-Done
 returns c =
-    let listed = c.before.before in
-    let told = listed.before.before in
-    let changed = told.before.before in
-    preview_listed _ _ _ changed.change-facts.result changed.change-facts.ensures _ told.enum_told.given.1 _ _ listed.listing.ensures
+    preview_listed _ _ _ c.change_facts-copy.result c.change_facts-copy.ensures _ c.in-Done.is _ _ c.listing.ensures
 
-enum-known-answer : tie.Need-enum-known-answer
+enum-known-answer : tie.Need-enum_known-answer
 enum-known-answer c = search rules
 
-returns-2 : tie.Need-returns-2
+returns-2 : tie.Need-returns-in-Refused
 returns-2 c =
-    let told = c.before in
-    let changed = told.before.before in
-    preview_refused _ _ _ changed.change-facts.result changed.change-facts.ensures _ _ told.answer.given.1
+    preview_refused _ _ _ c.change_facts-copy.result c.change_facts-copy.ensures _ _ c.in-Refused.is
 
-pub preview-spec : {M : Type 1} → statement M
-preview-spec =
+pub preview_spec : {M : Type 1} → statement M
+preview_spec =
     tie.close
     (tie.spec
     change-facts-requires

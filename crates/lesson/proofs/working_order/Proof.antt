@@ -6,14 +6,14 @@ use Rattle.lesson.proofs.Replies.{order_20, order_given}
 use Rattle.lesson.proofs.working_order.Statement.{statement}
 use Rattle.lesson.proofs.working_order.Tie as tie
 
-returns : tie.Need-returns
-returns c = order_20 _ c.if1.true _ (sym order_none)
+returns : tie.Need-returns-then-s-eq0
+returns c = order_20 _ c.if-s-eq0.true _ (sym order_none)
 
-order-below-requires : tie.Need-order-below-requires
+order-below-requires : tie.Need-order_below-requires
 order-below-requires c κs = search rules
 
-returns-2 : tie.Need-returns-2
-returns-2 c = order_given _ c.before.if1.false _ c.Order-below.ensures
+returns-2 : tie.Need-returns
+returns-2 c = order_given _ c.if-s-eq0.false _ c.order_below.ensures
 
-pub working-order-spec : {M : Type 1} → statement M
-working-order-spec = tie.close (tie.spec returns order-below-requires returns-2)
+pub working_order_spec : {M : Type 1} → statement M
+working_order_spec = tie.close (tie.spec returns order-below-requires returns-2)

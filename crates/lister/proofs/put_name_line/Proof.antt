@@ -12,10 +12,10 @@ use Rattle.lister.proofs.put_name_line.Statement.{statement}
 use Rattle.lister.proofs.put_name_line.Tie as tie
 
 -- the places: the number written, the name read, and the name written
-abbrev at-start : tie.After-put-number → tie.Start
+abbrev at-start : tie.After-put_number-p → tie.Start
 at-start c = c.before.before.before.before.before
 
-abbrev at-number : tie.After-name-at → tie.After-put-number
+abbrev at-number : tie.After-name_at → tie.After-put_number-p
 at-number c = c.before.before.before.before
 
 -- the parts
@@ -31,25 +31,25 @@ verdicts s = verdicts_end (words_by s.args.marks) s.args.k
 line_room : (s : tie.Start) → Room (number-field s ++ (name-field s ++ verdicts s)) s.args.at
 line_room s = let a = s.args in rw (name_line_is (words_by a.marks) a.k (name_at a.text.now a.lengths.now a.k)) at s.requires.0
 
-put-number-requires : tie.Need-put-number-requires
+put-number-requires : tie.Need-put_number-p-requires
 put-number-requires c κs = let s = c.before.before.before.before in room_first (number-field s) (name-field s ++ verdicts s) (line_room s)
 
-name-at-requires : tie.Need-name-at-requires
+name-at-requires : tie.Need-name_at-requires
 name-at-requires c κs = search rules
 
-put-word-requires : tie.Need-put-word-requires
+put-word-requires : tie.Need-put_word-q-requires
 put-word-requires c κs =
     let s = at-start (at-number c) in
-    rw c.name-at.ensures (room_second (number-field s) (name-field s) (verdicts s) (line_room s) (at-number c).put-number.ensures)
+    rw c.name_at.ensures (room_second (number-field s) (name-field s) (verdicts s) (line_room s) (at-number c).put_number-p.ensures)
 
-put-verdicts-requires : tie.Need-put-verdicts-requires
+put-verdicts-requires : tie.Need-put_verdicts-requires
 put-verdicts-requires c κs =
     let word = c.before.before.before in
     let number = at-number word.before in
     let s = at-start number in
-    (room_third (number-field s) (name-field s) (verdicts s) (line_room s) number.put-number.ensures (rw word.before.name-at.ensures at word.put_word.ensures), s.pre.1)
+    (room_third (number-field s) (name-field s) (verdicts s) (line_room s) number.put_number-p.ensures (rw word.name_at.ensures at word.put_word-q.ensures), s.requires.1)
 
-same_length : tie.Need-same-length
+same_length : tie.Need-shape_of-t
 same_length c = search rules
 
 returns : tie.Need-returns
@@ -58,10 +58,10 @@ returns c =
     let number = at-number word.before in
     let a = (at-start number).args in
     rw (name_line_is (words_by a.marks) a.k (name_at a.text.now a.lengths.now a.k))
-    (put_then number.put-number.ensures (put_then (rw word.before.name-at.ensures at word.put_word.ensures) c.before.before.put-verdicts.ensures))
+    (put_then number.put_number-p.ensures (put_then (rw word.name_at.ensures at word.put_word-q.ensures) c.put_verdicts.ensures))
 
-pub put-name-line-spec : {M : Type 1} → statement M
-put-name-line-spec =
+pub put_name_line_spec : {M : Type 1} → statement M
+put_name_line_spec =
     tie.close
     (tie.spec
     put-number-requires

@@ -9,74 +9,62 @@ use native.Mathlib.Omega.{arith}
 use Rattle.lister.proofs.put_verdict.Statement.{statement}
 use Rattle.lister.proofs.put_verdict.Tie as tie
 
-verdict-of-requires : tie.Need-verdict-of-requires
+verdict-of-requires : tie.Need-verdict_of-requires
 verdict-of-requires c κs = search rules
 
-verdict : (c : tie.After-verdict-of) (v : Verdict) → c.verdict-of.result ≡ v → verdicts_by c.before.before.args.model c.before.before.args.l ≡ verdict_is v
-verdict c v e = sym c.verdict-of.ensures ∙ ap verdict_is e
+verdict : (c : tie.After-verdict_of) (v : Verdict) → c.verdict_of.result ≡ v → verdicts_by c.args.model c.args.l ≡ verdict_is v
+verdict c v e = sym c.verdict_of.ensures ∙ ap verdict_is e
 
-enum_told : tie.Need-enum-told
+enum_told : tie.Need-enum_told-1
 enum_told c = search rules
 
-slice-aggregate-put-word : tie.Need-slice-aggregate-put-word
-slice-aggregate-put-word c = search rules
+put-word-requires : tie.Need-put_word-requires
+put-word-requires c κs = let room = rw (verdict c.before.before.before.before True c.in-True.is) at c.requires in record { fits = omega arith }
 
-put-word-requires : tie.Need-put-word-requires
-put-word-requires c κs = let room = rw (verdict c.before.before.before.before True c.before.before.enum_told.given.1) at c.before.before.before.before.before.before.requires in record { fits = omega arith }
-
-same_length : tie.Need-same-length
+same_length : tie.Need-shape_of-t-in-True
 same_length c = search rules
 
-returns : tie.Need-returns
-returns c = rw (verdict c.before.before.before.before.before.before.before True c.before.before.before.before.before.enum_told.given.1) c.before.before.put_word.ensures
+returns : tie.Need-returns-in-True
+returns c = rw (verdict c.before.before.before.before.before.before.before True c.in-True.is) c.put_word.ensures
 
-enum-told-2 : tie.Need-enum-told-2
+enum-told-2 : tie.Need-enum_told-in-False
 enum-told-2 c = search rules
 
-slice-aggregate-put-word-2 : tie.Need-slice-aggregate-put-word-2
-slice-aggregate-put-word-2 c = search rules
+put-word-requires-2 : tie.Need-put_word-requires-in-False
+put-word-requires-2 c κs = let room = rw (verdict c.before.before.before.before False c.in-False.is) at c.requires in record { fits = omega arith }
 
-put-word-requires-2 : tie.Need-put-word-requires-2
-put-word-requires-2 c κs = let room = rw (verdict c.before.before.before.before False c.before.before.enum-told2.given.1) at c.before.before.before.before.before.before.requires in record { fits = omega arith }
-
-same-length-2 : tie.Need-same-length-2
+same-length-2 : tie.Need-shape_of-t-in-False
 same-length-2 c = search rules
 
-returns-2 : tie.Need-returns-2
-returns-2 c = rw (verdict c.before.before.before.before.before.before.before False c.before.before.before.before.before.enum-told2.given.1) c.before.before.put-word2.ensures
+returns-2 : tie.Need-returns-in-False
+returns-2 c = rw (verdict c.before.before.before.before.before.before.before False c.in-False.is) c.put_word-in-False.ensures
 
-enum-told-3 : tie.Need-enum-told-3
+enum-told-3 : tie.Need-enum_told-in-Undefined
 enum-told-3 c = search rules
 
-slice-aggregate-put-word-3 : tie.Need-slice-aggregate-put-word-3
-slice-aggregate-put-word-3 c = search rules
+put-word-requires-3 : tie.Need-put_word-requires-in-Undefined
+put-word-requires-3 c κs = let room = rw (verdict c.before.before.before.before Undefined c.in-Undefined.is) at c.requires in record { fits = omega arith }
 
-put-word-requires-3 : tie.Need-put-word-requires-3
-put-word-requires-3 c κs = let room = rw (verdict c.before.before.before.before Undefined c.before.before.enum-told3.given.1) at c.before.before.before.before.before.before.requires in record { fits = omega arith }
-
-same-length-3 : tie.Need-same-length-3
+same-length-3 : tie.Need-shape_of-t-in-Undefined
 same-length-3 c = search rules
 
-returns-3 : tie.Need-returns-3
-returns-3 c = rw (verdict c.before.before.before.before.before.before.before Undefined c.before.before.before.before.before.enum-told3.given.1) c.before.before.put-word3.ensures
+returns-3 : tie.Need-returns-in-Undefined
+returns-3 c = rw (verdict c.before.before.before.before.before.before.before Undefined c.in-Undefined.is) c.put_word-in-Undefined.ensures
 
-pub put-verdict-spec : {M : Type 1} → statement M
-put-verdict-spec =
+pub put_verdict_spec : {M : Type 1} → statement M
+put_verdict_spec =
     tie.close
     (tie.spec
     verdict-of-requires
     enum_told
-    slice-aggregate-put-word
     put-word-requires
     same_length
     returns
     enum-told-2
-    slice-aggregate-put-word-2
     put-word-requires-2
     same-length-2
     returns-2
     enum-told-3
-    slice-aggregate-put-word-3
     put-word-requires-3
     same-length-3
     returns-3)

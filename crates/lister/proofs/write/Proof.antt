@@ -4,23 +4,23 @@ use Rattle.lister.proofs.Calls.{writes_short, writes_whole}
 use Rattle.lister.proofs.write.Statement.{statement}
 use Rattle.lister.proofs.write.Tie as tie
 
-slice-aggregate-put-listing : tie.Need-slice-aggregate-put-listing
+slice-aggregate-put-listing : tie.Need-slice_bounds-put_listing-end
 slice-aggregate-put-listing c = search rules
 
-put-listing-requires : tie.Need-put-listing-requires
+put-listing-requires : tie.Need-put_listing-length-requires
 put-listing-requires c κs = search rules
 
-returns : tie.Need-returns
-returns c = writes_short c.before.before.put-listing.ensures c.if1.true
+returns : tie.Need-returns-then-buffer-length
+returns c = writes_short c.put_listing-length.ensures c.if-buffer-length.true
 
-put-listing-requires-2 : tie.Need-put-listing-requires-2
+put-listing-requires-2 : tie.Need-put_listing-requires
 put-listing-requires-2 c κs = search rules
 
-same_length : tie.Need-same-length
+same_length : tie.Need-shape_of-buffer
 same_length c = search rules
 
-returns-2 : tie.Need-returns-2
-returns-2 c = writes_whole c.before.before.before.before.before.before.put-listing.ensures c.before.before.before.before.if1.false c.before.before.put-listing2.ensures
+returns-2 : tie.Need-returns
+returns-2 c = writes_whole c.put_listing-length.ensures c.if-buffer-length.false c.put_listing.ensures
 
 pub write_spec : {M : Type 1} → statement M
 write_spec =

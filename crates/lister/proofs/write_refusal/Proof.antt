@@ -4,26 +4,26 @@ use Rattle.lister.proofs.Calls.{writes_short, writes_whole}
 use Rattle.lister.proofs.write_refusal.Statement.{statement}
 use Rattle.lister.proofs.write_refusal.Tie as tie
 
-slice-aggregate-put-refusal : tie.Need-slice-aggregate-put-refusal
+slice-aggregate-put-refusal : tie.Need-slice_bounds-put_refusal-end
 slice-aggregate-put-refusal c = search rules
 
-put-refusal-requires : tie.Need-put-refusal-requires
+put-refusal-requires : tie.Need-put_refusal-n-requires
 put-refusal-requires c κs = search rules
 
-returns : tie.Need-returns
-returns c = writes_short c.before.before.put-refusal.ensures c.if1.true
+returns : tie.Need-returns-then-buffer-n
+returns c = writes_short c.put_refusal-n.ensures c.if-buffer-n.true
 
-put-refusal-requires-2 : tie.Need-put-refusal-requires-2
+put-refusal-requires-2 : tie.Need-put_refusal-requires
 put-refusal-requires-2 c κs = search rules
 
-same_length : tie.Need-same-length
+same_length : tie.Need-shape_of-buffer
 same_length c = search rules
 
-returns-2 : tie.Need-returns-2
-returns-2 c = writes_whole c.before.before.before.before.before.before.put-refusal.ensures c.before.before.before.before.if1.false c.before.before.put-refusal2.ensures
+returns-2 : tie.Need-returns
+returns-2 c = writes_whole c.put_refusal-n.ensures c.if-buffer-n.false c.put_refusal.ensures
 
-pub write-refusal-spec : {M : Type 1} → statement M
-write-refusal-spec =
+pub write_refusal_spec : {M : Type 1} → statement M
+write_refusal_spec =
     tie.close
     (tie.spec
     slice-aggregate-put-refusal

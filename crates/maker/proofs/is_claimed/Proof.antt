@@ -6,14 +6,14 @@ use Rattle.maker.proofs.is_claimed.Tie as tie
 contains-requires : tie.Need-contains-requires
 contains-requires c κs = search rules
 
-returns : tie.Need-returns
-returns c = rw c.before.if1.true c.contains.ensures
+returns : tie.Need-returns-then-truth
+returns c = rw c.if-truth.true c.contains.ensures
 
 contains-requires-2 : tie.Need-contains-requires-2
 contains-requires-2 c κs = search rules
 
-returns-2 : tie.Need-returns-2
-returns-2 c = rw c.before.if1.false c.contains2.ensures
+returns-2 : tie.Need-returns
+returns-2 c = rw c.if-truth.false c.contains-2.ensures
 
-pub is-claimed-spec : {M : Type 1} → statement M
-is-claimed-spec = tie.close (tie.spec contains-requires returns contains-requires-2 returns-2)
+pub is_claimed_spec : {M : Type 1} → statement M
+is_claimed_spec = tie.close (tie.spec contains-requires returns contains-requires-2 returns-2)

@@ -9,54 +9,54 @@ use Rattle.reach.proofs.Bodies.{name_below, Adding, adding_none, adding_more, ad
 use Rattle.reach.proofs.add_names.Statement.{statement}
 use Rattle.reach.proofs.add_names.Tie as tie
 
-abbrev invariant-loop : tie.invariant-loop
+abbrev invariant-loop : tie.invariant-loop-j
 invariant-loop starts entries r table₀ k j₀ end table j = Adding table₀ k starts entries r j table
 
-abbrev decreases-loop : tie.decreases-loop
+abbrev decreases-loop : tie.decreases-loop-j
 decreases-loop starts entries r table₀ k j₀ end table j = end - j
 
-body-start-requires : tie.Need-body-start-requires invariant-loop decreases-loop
+body-start-requires : tie.Need-body_start-j-requires invariant-loop decreases-loop
 body-start-requires c κs = search rules
 
-body-end-requires : tie.Need-body-end-requires invariant-loop decreases-loop
+body-end-requires : tie.Need-body_end-end-requires invariant-loop decreases-loop
 body-end-requires c κs = search rules
 
-loop-holds : tie.Need-loop-init invariant-loop decreases-loop
-loop-holds c = adding_none _ _ _ _ _ c.before.body-start.ensures
+loop-holds : tie.Need-loop-j-init invariant-loop decreases-loop
+loop-holds c = adding_none _ _ _ _ _ c.body_start-j.ensures
 
-entry-at-requires : tie.Need-entry-at-requires invariant-loop decreases-loop
+entry-at-requires : tie.Need-entry_at-requires invariant-loop decreases-loop
 entry-at-requires c κs = search rules
 
-name-in-requires : tie.Need-name-in-requires invariant-loop decreases-loop
+name-in-requires : tie.Need-name_in-name-requires invariant-loop decreases-loop
 name-in-requires c κs = search rules
 
-add-name-requires : tie.Need-add-name-requires invariant-loop decreases-loop
+add-name-requires : tie.Need-add_name-requires invariant-loop decreases-loop
 add-name-requires c κs =
     let start = c.before.before.before.before.before.before.before.before.before.before in
-    let name : c.before.name_in.result ≡ name_in (entry_at start.args.entries.now c.before.before.before.before.loop.j) = c.before.name_in.ensures ∙ ap name_in c.before.before.entry_at.ensures in
-    (c.before.before.before.before.loop.invariant.size ∙ start.requires.0, start.requires.1, omega (arith, name, name_below start.args.entries.now c.before.before.before.before.loop.j))
+    let name : c.name_in-name.result ≡ name_in (entry_at start.args.entries.now c.loop-j.j) = c.name_in-name.ensures ∙ ap name_in c.entry_at.ensures in
+    (c.loop-j.invariant.size ∙ start.requires.0, start.requires.1, omega (arith, name, name_below start.args.entries.now c.loop-j.j))
 
-add-j : tie.Need-overflow-add-j invariant-loop decreases-loop
+add-j : tie.Need-overflow_add-j invariant-loop decreases-loop
 add-j c = search rules
 
-loop-less : tie.Need-loop-smaller invariant-loop decreases-loop
+loop-less : tie.Need-loop-j-smaller invariant-loop decreases-loop
 loop-less c = search rules
 
-loop-again : tie.Need-loop-preserved invariant-loop decreases-loop
+loop-again : tie.Need-loop-j-preserved invariant-loop decreases-loop
 loop-again c =
-    let end = c.before.before.before.before.before.before.before.before.body-end.ensures in
-    adding_more _ _ _ _ _ c.before.before.before.before.before.before.before.loop.invariant _ _ (omega arith) (c.before.before.before.before.name_in.ensures ∙ ap name_in c.before.before.before.before.before.entry_at.ensures) c.before.before.add-name.ensures
+    let end = c.body_end-end.ensures in
+    adding_more _ _ _ _ _ c.loop-j.invariant _ _ (omega arith) (c.name_in-name.ensures ∙ ap name_in c.entry_at.ensures) c.add_name.ensures
 
-same_length : tie.Need-same-length invariant-loop decreases-loop
+same_length : tie.Need-shape_of-table invariant-loop decreases-loop
 same_length c = search rules
 
 returns : tie.Need-returns invariant-loop decreases-loop
 returns c =
-    let end = c.before.before.body-end.ensures in
-    adding_all _ _ _ _ _ c.before.loop.invariant (omega arith)
+    let end = c.body_end-end.ensures in
+    adding_all _ _ _ _ _ c.loop-j.invariant (omega arith)
 
-pub add-names-spec : {M : Type 1} → statement M
-add-names-spec =
+pub add_names_spec : {M : Type 1} → statement M
+add_names_spec =
     tie.close
     (tie.spec
     invariant-loop

@@ -6,20 +6,20 @@ use Rattle.reach.proofs.Rows.{more_put}
 use Rattle.reach.proofs.add_set.Statement.{statement}
 use Rattle.reach.proofs.add_set.Tie as tie
 
-row-at-requires : tie.Need-row-at-requires
+row-at-requires : tie.Need-row_at-requires
 row-at-requires c κs = search rules
 
-union-requires : tie.Need-union-requires
+union-requires : tie.Need-union-row-requires
 union-requires c κs = search rules
 
-put-row-requires : tie.Need-put-row-requires
+put-row-requires : tie.Need-put_row-requires
 put-row-requires c κs = search rules
 
-same_length : tie.Need-same-length
+same_length : tie.Need-shape_of-table
 same_length c = search rules
 
 returns : tie.Need-returns
-returns c = more_put _ _ _ _ _ _ (ap set_of c.before.before.before.before.before.row_at.ensures) c.before.before.before.before.union.ensures c.before.before.put-row.ensures
+returns c = more_put _ _ _ _ _ _ (ap set_of c.row_at.ensures) c.union-row.ensures c.put_row.ensures
 
-pub add-set-spec : {M : Type 1} → statement M
-add-set-spec = tie.close (tie.spec row-at-requires union-requires put-row-requires same_length returns)
+pub add_set_spec : {M : Type 1} → statement M
+add_set_spec = tie.close (tie.spec row-at-requires union-requires put-row-requires same_length returns)

@@ -4,17 +4,17 @@ use mathlib.Core.Path.{refl}
 use Rattle.reach.proofs.name_in.Statement.{statement}
 use Rattle.reach.proofs.name_in.Tie as tie
 
-enum-known-e : tie.Need-enum-known-e
+enum-known-e : tie.Need-enum_known-e
 enum-known-e c = search rules
 
-enum-known-e-2 : tie.Need-enum-known-e-2
+enum-known-e-2 : tie.Need-enum_known-e-in-Default-1
 enum-known-e-2 c = search rules
 
-returns : tie.Need-returns
-returns c = rw c.before.e.given.1 refl
+returns : tie.Need-returns-in-Positive
+returns c = rw c.in-Positive.is refl
 
-returns-2 : tie.Need-returns-2
-returns-2 c = rw c.before.e2.given.1 refl
+returns-2 : tie.Need-returns-in-Default
+returns-2 c = rw c.in-Default.is refl
 
-pub name-in-spec : {M : Type 1} → statement M
-name-in-spec = tie.close (tie.spec enum-known-e enum-known-e-2 returns returns-2)
+pub name_in_spec : {M : Type 1} → statement M
+name_in_spec = tie.close (tie.spec enum-known-e enum-known-e-2 returns returns-2)

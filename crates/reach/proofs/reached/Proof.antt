@@ -12,67 +12,67 @@ use Rattle.reach.proofs.Closure.{Grown, grown_start, grown_more, grown_end, sett
 use Rattle.reach.proofs.reached.Statement.{statement}
 use Rattle.reach.proofs.reached.Tie as tie
 
-abbrev invariant-loop : tie.invariant-loop
+abbrev invariant-loop : tie.invariant-loop-found
 invariant-loop table whole k found₀ done₀ found done = Grown table (set_of whole.words) k (set_of found.words) (set_of done.words)
 
-abbrev decreases-loop : tie.decreases-loop
+abbrev decreases-loop : tie.decreases-loop-found
 decreases-loop table whole k found₀ done₀ found done = free (set_of done.words)
 
 -- the lowest of the names found that are not done
-lowest : (c : tie.After-lowest-both invariant-loop decreases-loop) (d : Clash) → c.lowest-both.result ≡ d → LowestOf (both_in (set_of c.before.difference.result.words)) d
-lowest c d e = lowest_of _ (member_room _ (search rules)) _ c.lowest-both.ensures d e
+lowest : (c : tie.After-lowest_both invariant-loop decreases-loop) (d : Clash) → c.lowest_both.result ≡ d → LowestOf (both_in (set_of c.difference.result.words)) d
+lowest c d e = lowest_of _ (member_room _ (search rules)) _ c.lowest_both.ensures d e
 
 empty-requires : tie.Need-empty-requires invariant-loop decreases-loop
 empty-requires c κs = search rules
 
-with-name-requires : tie.Need-with-name-requires invariant-loop decreases-loop
+with-name-requires : tie.Need-with_name-found-requires invariant-loop decreases-loop
 with-name-requires c κs = search rules
 
-empty-requires-2 : tie.Need-empty-requires-2 invariant-loop decreases-loop
+empty-requires-2 : tie.Need-empty-done-requires invariant-loop decreases-loop
 empty-requires-2 c κs = search rules
 
-loop-holds : tie.Need-loop-init invariant-loop decreases-loop
-loop-holds c = grown_start _ _ _ _ _ _ c.before.with-name.ensures c.before.before.empty.ensures c.empty2.ensures
+loop-holds : tie.Need-loop-found-init invariant-loop decreases-loop
+loop-holds c = grown_start _ _ _ _ _ _ c.with_name-found.ensures c.empty.ensures c.empty-done.ensures
 
 difference-requires : tie.Need-difference-requires invariant-loop decreases-loop
 difference-requires c κs = search rules
 
-lowest-both-requires : tie.Need-lowest-both-requires invariant-loop decreases-loop
+lowest-both-requires : tie.Need-lowest_both-requires invariant-loop decreases-loop
 lowest-both-requires c κs = search rules
 
-enum_told : tie.Need-enum-told invariant-loop decreases-loop
+enum_told : tie.Need-enum_told-1 invariant-loop decreases-loop
 enum_told c = search rules
 
-returns : tie.Need-returns invariant-loop decreases-loop
-returns c = grown_end _ _ _ _ _ _ c.before.before.before.before.loop.invariant c.before.before.before.difference.ensures (lowest c.before.before None c.enum_told.given.1)
+returns : tie.Need-returns-in-None invariant-loop decreases-loop
+returns c = grown_end _ _ _ _ _ _ c.loop-found.invariant c.difference.ensures (lowest c.before None c.in-None.is)
 
-enum-known-j : tie.Need-enum-known-j invariant-loop decreases-loop
+enum-known-j : tie.Need-enum_known-j invariant-loop decreases-loop
 enum-known-j c = search rules
 
-row-at-requires : tie.Need-row-at-requires invariant-loop decreases-loop
-row-at-requires c κs = (c.before.before.before.before.before.before.before.before.before.before.requires.0, (lowest c.before.before.before _ c.before.j.given.1).2)
+row-at-requires : tie.Need-row_at-row-requires invariant-loop decreases-loop
+row-at-requires c κs = (c.requires.0, (lowest c.before _ c.in-Name.is).2)
 
-union-requires : tie.Need-union-requires invariant-loop decreases-loop
+union-requires : tie.Need-union-found-requires invariant-loop decreases-loop
 union-requires c κs = search rules
 
-settled-requires : tie.Need-settled-requires invariant-loop decreases-loop
-settled-requires c κs = (lowest c.before.before.before.before.before _ c.before.before.before.j.given.1).2
+settled-requires : tie.Need-settled-done-requires invariant-loop decreases-loop
+settled-requires c κs = (lowest c.before.before.before _ c.in-Name.is).2
 
-loop-less : tie.Need-loop-smaller invariant-loop decreases-loop
+loop-less : tie.Need-loop-found-smaller invariant-loop decreases-loop
 loop-less c =
-    let name = c.before.before.before.before.j.given in
-    let found = set_of c.before.before.before.before.before.before.before.before.loop.found.words in
-    settled_falls name.0.0 (set_of c.before.before.before.before.before.before.before.before.before.before.before.before.before.args.whole.words) (set_of c.before.before.row_at.result.words) found _ _ _ c.before.before.before.before.before.before.before.difference.ensures (lowest c.before.before.before.before.before.before _ name.1).0
-    c.settled.ensures (member_room _ (search rules))
+    let name = c.in-Name.is in
+    let found = set_of c.loop-found.found.words in
+    settled_falls c.in-Name.j (set_of c.args.whole.words) (set_of c.row_at-row.result.words) found _ _ _ c.difference.ensures (lowest c.before.before.before.before _ name).0
+    c.settled-done.ensures (member_room _ (search rules))
 
-loop-again : tie.Need-loop-preserved invariant-loop decreases-loop
+loop-again : tie.Need-loop-found-preserved invariant-loop decreases-loop
 loop-again c =
-    let name = c.before.before.before.before.j.given.1 in
-    grown_more _ _ _ _ _ _ c.before.before.before.before.before.before.before.before.loop.invariant c.before.before.before.before.before.before.before.difference.ensures _ (lowest c.before.before.before.before.before.before _ name).2 (lowest c.before.before.before.before.before.before _ name) _ _ _ (ap set_of c.before.before.row_at.ensures)
-    c.before.union.ensures c.settled.ensures
+    let name = c.in-Name.is in
+    grown_more _ _ _ _ _ _ c.loop-found.invariant c.difference.ensures _ (lowest c.before.before.before.before _ name).2 (lowest c.before.before.before.before _ name) _ _ _ (ap set_of c.row_at-row.ensures)
+    c.union-found.ensures c.settled-done.ensures
 
-pub reached-spec : {M : Type 1} → statement M
-reached-spec =
+pub reached_spec : {M : Type 1} → statement M
+reached_spec =
     tie.close
     (tie.spec
     invariant-loop

@@ -7,50 +7,50 @@ use Rattle.reach.proofs.Rows.{Copied, copied_none, copied_more, copied_all}
 use Rattle.reach.proofs.row_at.Statement.{statement}
 use Rattle.reach.proofs.row_at.Tie as tie
 
-abbrev invariant-loop : tie.invariant-loop
+abbrev invariant-loop : tie.invariant-loop-i
 invariant-loop table k row₀ i₀ row i = (i ≤ n_words) × Copied table k row.words i
 
-abbrev decreases-loop : tie.decreases-loop
+abbrev decreases-loop : tie.decreases-loop-i
 decreases-loop table k row₀ i₀ row i = n_words - i
 
-empty-requires : tie.Need-empty-requires invariant-loop decreases-loop
+empty-requires : tie.Need-empty-row-requires invariant-loop decreases-loop
 empty-requires c κs = search rules
 
-loop-holds : tie.Need-loop-init invariant-loop decreases-loop
+loop-holds : tie.Need-loop-i-init invariant-loop decreases-loop
 loop-holds c = (omega arith, copied_none _ _ _ (search rules))
 
-mul-row : tie.Need-overflow-mul-row invariant-loop decreases-loop
+mul-row : tie.Need-overflow_mul-row invariant-loop decreases-loop
 mul-row c = search rules
 
-add_row : tie.Need-overflow-add-row invariant-loop decreases-loop
+add_row : tie.Need-overflow_add-row invariant-loop decreases-loop
 add_row c = search rules
 
-mul-row-2 : tie.Need-overflow-mul-row-2 invariant-loop decreases-loop
+mul-row-2 : tie.Need-offset_bounds-table-k invariant-loop decreases-loop
 mul-row-2 c = search rules
 
-shared-slice-read-row : tie.Need-shared-slice-read-row invariant-loop decreases-loop
+shared-slice-read-row : tie.Need-bounds-table-k invariant-loop decreases-loop
 shared-slice-read-row c = search rules
 
-mul-row-3 : tie.Need-overflow-mul-row-3 invariant-loop decreases-loop
+mul-row-3 : tie.Need-offset_bounds-row-i invariant-loop decreases-loop
 mul-row-3 c = search rules
 
-element-write-row : tie.Need-element-write-row invariant-loop decreases-loop
+element-write-row : tie.Need-bounds-row-i invariant-loop decreases-loop
 element-write-row c = search rules
 
-add-i : tie.Need-overflow-add-i invariant-loop decreases-loop
+add-i : tie.Need-overflow_add-i invariant-loop decreases-loop
 add-i c = search rules
 
-loop-less : tie.Need-loop-smaller invariant-loop decreases-loop
+loop-less : tie.Need-loop-i-smaller invariant-loop decreases-loop
 loop-less c = search rules
 
-loop-again : tie.Need-loop-preserved invariant-loop decreases-loop
-loop-again c = (omega arith, copied_more _ _ _ _ c.before.before.loop.invariant.1 (search rules))
+loop-again : tie.Need-loop-i-preserved invariant-loop decreases-loop
+loop-again c = (omega arith, copied_more _ _ _ _ c.loop-i.invariant.1 (search rules))
 
 returns : tie.Need-returns invariant-loop decreases-loop
-returns c = copied_all _ _ _ _ c.before.loop.invariant.1 c.before.before.before.before.requires.0 c.before.before.before.before.requires.1 (search rules)
+returns c = copied_all _ _ _ _ c.loop-i.invariant.1 c.requires.0 c.requires.1 (search rules)
 
-pub row-at-spec : {M : Type 1} → statement M
-row-at-spec =
+pub row_at_spec : {M : Type 1} → statement M
+row_at_spec =
     tie.close
     (tie.spec
     invariant-loop

@@ -5,13 +5,13 @@ use mathlib.Core.Bool.{◌&&◌}
 use Rattle.reach.proofs.settled.Statement.{statement}
 use Rattle.reach.proofs.settled.Tie as tie
 
-mul-contains : tie.Need-overflow-mul-contains
+mul-contains : tie.Need-overflow_mul-j
 mul-contains c = search rules
 
 contains-requires : tie.Need-contains-requires
 contains-requires c κs = search rules
 
-mul-contains-2 : tie.Need-overflow-mul-contains-2
+mul-contains-2 : tie.Need-overflow_mul-j-2
 mul-contains-2 c = search rules
 
 contains-requires-2 : tie.Need-contains-requires-2
@@ -20,17 +20,17 @@ contains-requires-2 c κs = search rules
 union-requires : tie.Need-union-requires
 union-requires c κs = search rules
 
-returns : tie.Need-returns
-returns c = rw (sym (ap₂ ◌&&◌ c.before.before.before.contains.ensures c.before.before.contains2.ensures) ∙ c.before.if1.true) c.union.ensures
+returns : tie.Need-returns-then-contains
+returns c = rw (sym (ap₂ ◌&&◌ c.contains.ensures c.contains-2.ensures) ∙ c.if-contains.true) c.union.ensures
 
-with-name-requires : tie.Need-with-name-requires
+with-name-requires : tie.Need-with_name-requires
 with-name-requires c κs = search rules
 
-returns-2 : tie.Need-returns-2
-returns-2 c = rw (sym (ap₂ ◌&&◌ c.before.before.before.contains.ensures c.before.before.contains2.ensures) ∙ c.before.if1.false) c.with-name.ensures
+returns-2 : tie.Need-returns
+returns-2 c = rw (sym (ap₂ ◌&&◌ c.contains.ensures c.contains-2.ensures) ∙ c.if-contains.false) c.with_name.ensures
 
-pub settled-spec : {M : Type 1} → statement M
-settled-spec =
+pub settled_spec : {M : Type 1} → statement M
+settled_spec =
     tie.close
     (tie.spec
     mul-contains

@@ -9,40 +9,40 @@ use Rattle.reach.proofs.Closure.{sweep_start, sweep_more}
 use Rattle.reach.proofs.sweep.Statement.{statement}
 use Rattle.reach.proofs.sweep.Tie as tie
 
-abbrev invariant-loop : tie.invariant-loop
+abbrev invariant-loop : tie.invariant-loop-i
 invariant-loop table₀ names down all found₀ i₀ table found i = (i ≤ names) × SweptBy table₀ (set_of found₀.words) i down all table (set_of found.words)
 
-abbrev decreases-loop : tie.decreases-loop
+abbrev decreases-loop : tie.decreases-loop-i
 decreases-loop table₀ names down all found₀ i₀ table found i = names - i
 
-loop-holds : tie.Need-loop-init invariant-loop decreases-loop
+loop-holds : tie.Need-loop-i-init invariant-loop decreases-loop
 loop-holds c = (omega arith, sweep_start _ _ _ _)
 
-name-at-turn-requires : tie.Need-name-at-turn-requires invariant-loop decreases-loop
+name-at-turn-requires : tie.Need-name_at_turn-k-requires invariant-loop decreases-loop
 name-at-turn-requires c κs = search rules
 
-complete-requires : tie.Need-complete-requires invariant-loop decreases-loop
+complete-requires : tie.Need-complete-found-requires invariant-loop decreases-loop
 complete-requires c κs = search rules
 
-add-i : tie.Need-overflow-add-i invariant-loop decreases-loop
+add-i : tie.Need-overflow_add-i invariant-loop decreases-loop
 add-i c = search rules
 
-loop-less : tie.Need-loop-smaller invariant-loop decreases-loop
+loop-less : tie.Need-loop-i-smaller invariant-loop decreases-loop
 loop-less c = search rules
 
-loop-again : tie.Need-loop-preserved invariant-loop decreases-loop
-loop-again c = (omega arith, sweep_more c.before.before.before.before.before.before.loop.invariant.1 c.before.before.before.before.name-at-turn.ensures c.before.before.complete.ensures)
+loop-again : tie.Need-loop-i-preserved invariant-loop decreases-loop
+loop-again c = (omega arith, sweep_more c.loop-i.invariant.1 c.name_at_turn-k.ensures c.complete-found.ensures)
 
-same_length : tie.Need-same-length invariant-loop decreases-loop
+same_length : tie.Need-shape_of-table invariant-loop decreases-loop
 same_length c = search rules
 
 returns : tie.Need-returns invariant-loop decreases-loop
 returns c =
-    let all : c.before.loop.i ≡ c.before.before.before.args.names = omega arith in
-    rw all at c.before.loop.invariant.1
+    let all : c.loop-i.i ≡ c.args.names = omega arith in
+    rw all at c.loop-i.invariant.1
 
-pub sweep-spec : {M : Type 1} → statement M
-sweep-spec =
+pub sweep_spec : {M : Type 1} → statement M
+sweep_spec =
     tie.close
     (tie.spec
     invariant-loop

@@ -12,8 +12,8 @@ use Rattle.reach.proofs.with_reaching.Statement.{statement}
 use Rattle.reach.proofs.with_reaching.Tie as tie
 
 -- the lowest name with both literals in both
-lowest : (c : tie.After-lowest-both) (d : Clash) → c.lowest-both.result ≡ d → LowestOf (both_in (set_of c.before.difference2.result.words)) d
-lowest c d e = lowest_of _ (member_room _ (search rules)) _ c.lowest-both.ensures d e
+lowest : (c : tie.After-lowest_both) (d : Clash) → c.lowest_both.result ≡ d → LowestOf (both_in (set_of c.difference-2.result.words)) d
+lowest c d e = lowest_of _ (member_room _ (search rules)) _ c.lowest_both.ensures d e
 
 difference-requires : tie.Need-difference-requires
 difference-requires c κs = search rules
@@ -21,28 +21,28 @@ difference-requires c κs = search rules
 difference-requires-2 : tie.Need-difference-requires-2
 difference-requires-2 c κs = search rules
 
-lowest-both-requires : tie.Need-lowest-both-requires
+lowest-both-requires : tie.Need-lowest_both-requires
 lowest-both-requires c κs = search rules
 
-enum_told : tie.Need-enum-told
+enum_told : tie.Need-enum_told-1
 enum_told c = search rules
 
-enum-told-2 : tie.Need-enum-told-2
+enum-told-2 : tie.Need-enum_told-in-Name
 enum-told-2 c = search rules
 
 union-requires : tie.Need-union-requires
 union-requires c κs = search rules
 
-returns : tie.Need-returns
+returns : tie.Need-returns-in-None
 returns c =
-    shares_none _ _ _ _ _ _ c.before.before.before.before.difference.ensures c.before.before.before.difference2.ensures (lowest c.before.before None c.enum_told.given.1) _ refl
+    shares_none _ _ _ _ _ _ c.difference.ensures c.difference-2.ensures (lowest c.before None c.in-None.is) _ refl
 
-returns-2 : tie.Need-returns-2
+returns-2 : tie.Need-returns-in-Name
 returns-2 c =
-    shares_some _ _ _ _ _ _ c.before.before.before.before.before.difference.ensures c.before.before.before.before.difference2.ensures _ (lowest c.before.before.before _ c.before.enum-told2.given.1) _ c.union.ensures
+    shares_some _ _ _ _ _ _ c.difference.ensures c.difference-2.ensures _ (lowest c.before.before _ c.in-Name.is) _ c.union.ensures
 
-pub with-reaching-spec : {M : Type 1} → statement M
-with-reaching-spec =
+pub with_reaching_spec : {M : Type 1} → statement M
+with_reaching_spec =
     tie.close
     (tie.spec
     difference-requires

@@ -129,13 +129,13 @@ loop-again c =
     let t = told.in-Entry.tildes in
     let stored = c.put16.ensures in (
       next_within (inside end),
-      next_count end.end_of-e.ensures.1 (at-start at).args.at was.inv.1,
-      ap length stored ∙ simp length-set was.inv.2,
+      next_count end.end_of-e.ensures.1 (at-start at).args.at was.invariant.1,
+      ap length stored ∙ simp length-set was.invariant.2,
       λ names k e. let entry = sym ((at_field told).known_of.ensures.known names k e) ∙ told.in-Entry.is in (
-        sym (fields_go (is_known EitherCase names) (line_of at) was.p end.end_of-e.result end.loop-p-test.true end.end_of-e.ensures.0 (is_declared names _ l t entry)) ∙ (was.inv.3 names k e).0,
+        sym (fields_go (is_known EitherCase names) (line_of at) was.p end.end_of-e.result end.loop-p-test.true end.end_of-e.ensures.0 (is_declared names _ l t entry)) ∙ (was.invariant.3 names k e).0,
         ap (λ (x : List ℕ). sets x (was.k + 1) (map (field_code names) (rest comma (line_of at) (end.end_of-e.result + 1)))) stored
             ∙ sym (store_field was.entries was.k (field_code names) (line_of at) was.p end.end_of-e.result end.loop-p-test.true end.end_of-e.ensures.0 (2 * l + t) (code_is names _ l t entry))
-            ∙ (was.inv.3 names k e).1,
+            ∙ (was.invariant.3 names k e).1,
       ),
     )
 

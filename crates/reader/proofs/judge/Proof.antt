@@ -36,8 +36,8 @@ at_name c = c.before.before.before.before
 abbrev after-name : tie.After-slice_known-in-Name-4-1 → tie.After-name_line
 after-name c = c.before.before.before.before.before.before.before.before
 
-abbrev at-rule : tie.After-rule-line-arg5 → tie.In-Rule
-at-rule c = c.before.before.before.before.before.before
+abbrev at-rule : tie.After-rule_line-arg-in-Rule-2-1 → tie.In-Rule
+at-rule c = c.before.before.before.before
 
 abbrev after-rule : tie.After-slice_known-in-Rule-3-1 → tie.After-rule_line
 after-rule c = c.before.before.before.before.before.before
@@ -141,7 +141,7 @@ enum_told : tie.Need-enum_told-1
 enum_told c = search rules
 
 add-name-line : tie.Need-overflow_add-e
-add-name-line c = let within = inside (at-end (at_name c).before.before.before) in search rules
+add-name-line c = let within = inside (at-end (at_name c).before.before) in search rules
 
 sub-name-line : tie.Need-slice_bounds-name_line-count
 sub-name-line c = let place = name-place (at_name c) in search rules
@@ -153,7 +153,7 @@ part-name-line-end : tie.Need-slice_bounds-name_line-end
 part-name-line-end c = search rules
 
 name-line-requires : tie.Need-name_line-requires
-name-line-requires c κs = let end = at-end (at_name c.before).before.before.before in ((at-start end.before).requires, end.before.if-t.false)
+name-line-requires c κs = let end = at-end (at_name c.before).before.before in ((at-start end.before).requires, end.before.if-t.false)
 
 enum-told-2 : tie.Need-enum_told-in-Rule
 enum-told-2 c = search rules
@@ -205,7 +205,7 @@ same-length-4 c = c.lengths-1.given
 returns-3 : tie.Need-returns-in-Name
 returns-3 c =
     let arm = at_name (after-name c).before.before in
-    λ d h. read_as (name_read d _ ((after-name c).name_line.ensures d h)) (step arm.before.before.before.before arm.enum_told-1.given.1 d ∙ ap (word_step d Name) (only-name arm))
+    λ d h. read_as (name_read d _ ((after-name c).name_line.ensures d h)) (step arm.before.before.before arm.in-Name.is d ∙ ap (word_step d Name) (only-name arm))
 
 same-length-5 : tie.Need-shape_of-keys-in-Rule
 same-length-5 c = refl
@@ -225,7 +225,7 @@ same-length-9 c = c.entries-1.given
 returns-4 : tie.Need-returns-in-Rule
 returns-4 c =
     let arm = at-rule (after-rule c).before in
-    λ d h. read_as (rule_read d _ ((after-rule c).rule_line.ensures d h)) (step arm.before.before.before.before arm.enum_told-in-Rule-1.given.1 d ∙ ap (word_step d RuleWord) (sym (rule-part arm)))
+    λ d h. read_as (rule_read d _ ((after-rule c).rule_line.ensures d h)) (step arm.before.before.before arm.in-Rule.is d ∙ ap (word_step d RuleWord) (sym (rule-part arm)))
 
 returns-5 : tie.Need-returns-in-End
 returns-5 c =

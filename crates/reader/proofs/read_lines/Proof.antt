@@ -47,10 +47,10 @@ inside c = c.end_of-e.ensures.2 c.loop-at-test.true
 
 -- the slices that a line was lent have the lengths that they came with
 lengths-kept : (c : tie.After-slice_known-in-loop-at-7-1 invariant-loop decreases-loop)
-    → let now = (at-answer c).judge.new.1 in let was = (at-start (at-loop (at-end (at-answer c)))).args in
-    (length now.0 ≡ length was.keys-1.now) × (length now.1.0 ≡ length was.hints-1.now)
-    × (length now.1.1.0 ≡ length was.text-1.now) × (length now.1.1.1.0 ≡ length was.lengths-1.now) × (length now.1.1.1.1.0 ≡ length was.heads-1.now)
-    × (length now.1.1.1.1.1.0 ≡ length was.starts-1.now) × (length now.1.1.1.1.1.1.0 ≡ length was.entries-1.now)
+    → let now = (at-answer c).judge.new in let was = (at-start (at-loop (at-end (at-answer c)))).args in
+    (length now.keys ≡ length was.keys.now) × (length now.hints ≡ length was.hints.now)
+    × (length now.text ≡ length was.text.now) × (length now.lengths ≡ length was.lengths.now) × (length now.heads ≡ length was.heads.now)
+    × (length now.starts ≡ length was.starts.now) × (length now.entries ≡ length was.entries.now)
 lengths-kept c =
     let inv = (at-loop (at-end (at-answer c))).loop-at.invariant in (
       c.keys-1.given ∙ inv.3,
@@ -88,10 +88,10 @@ judge-requires : tie.Need-judge-requires invariant-loop decreases-loop
 judge-requires c κs = (at-loop c.before.before.before.before.before.before.before.before).loop-at.invariant.2.held.counted.fits
 
 enum-known-u : tie.Need-enum_known-u invariant-loop decreases-loop
-enum-known-u c = c.in-Fine.keys1
+enum-known-u c = search rules
 
 enum-known-k : tie.Need-enum_known-k invariant-loop decreases-loop
-enum-known-k c = c.in-Fault.keys2
+enum-known-k c = search rules
 
 same_length : tie.Need-shape_of-keys-in-Fault invariant-loop decreases-loop
 same_length c = (lengths-kept c.before).0
@@ -121,10 +121,10 @@ returns c =
     read_fault (at-loop end).loop-at.invariant.2 end.loop-at-test.true end.end_of-e.ensures.0 judged.judge.ensures c.in-Fault.is
 
 add_at : tie.Need-overflow_add-at invariant-loop decreases-loop
-add_at c = let end = at-end (at-fine c) in next_fits (inside end) (at-start (at-loop end)).good.0.1
+add_at c = let end = at-end (at-fine c) in next_fits (inside end) (at-start (at-loop end)).well_formed.0.1
 
 add-number : tie.Need-overflow_add-number invariant-loop decreases-loop
-add-number c = let end = at-end (at-fine c) in number_fits (at-loop end).loop-at.invariant.1 end.before.loop-at-test.true (at-start (at-loop end)).good.0.1
+add-number c = let end = at-end (at-fine c) in number_fits (at-loop end).loop-at.invariant.1 end.before.loop-at-test.true (at-start (at-loop end)).well_formed.0.1
 
 loop-less : tie.Need-loop-at-smaller invariant-loop decreases-loop
 loop-less c = let end = at-end (at-fine c) in next_less end.end_of-e.ensures.1 (inside end)
@@ -136,8 +136,8 @@ loop-again c =
     let was = (at-loop end).loop-at in
     let kept = lengths-kept c.before in (
       next_within (inside end),
-      next_number end.end_of-e.ensures.1 was.inv.1,
-      read_on was.inv.2 end.loop-at-test.true end.end_of-e.ensures.0 judged.judge.ensures c.in-Fine.is,
+      next_number end.end_of-e.ensures.1 was.invariant.1,
+      read_on was.invariant.2 end.loop-at-test.true end.end_of-e.ensures.0 judged.judge.ensures c.in-Fine.is,
       kept.0,
       kept.1,
       kept.2,

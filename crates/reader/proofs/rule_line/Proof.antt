@@ -23,6 +23,7 @@ use Rattle.reader.proofs.Held.{names_held, rule_held, rule_stored}
 use Rattle.reader.proofs.Answers.{rule_fault}
 use Rattle.reader.proofs.rule_line.Statement.{statement}
 use Rattle.reader.proofs.rule_line.Tie as tie
+use Rattle.reader.proofs.rule_line.Lts.{then-rules-ge-MAX_RULES-via-then-rules-ge-MAX_RULES, then-rules-ge-MAX_RULES-via-else-rules-ge-MAX_RULES+then-end-gt-MAX_ENTRIES}
 
 -- ---- the places: the forms, the head's end, the head looked up, the body looked up, the tests of the counts, and behind the stores
 
@@ -71,7 +72,7 @@ inside c = c.end_of-e.ensures.2 zero-le
 
 -- no field is malformed and the head has no `~`
 formed : (c : tie.After-end_of-e) → malformed EitherCase RuleWord (fields-of (at-forms c)) ≡ false
-formed c = not-true _ (sym (at-forms c).well-formed-2.ensures ∙ not-false _ c.if-not-well_formed.false-raw)
+formed c = not-true _ (sym (at-forms c).well_formed-2.ensures ∙ not-false _ c.if-not-well_formed.false-raw)
 
 -- the head looked up among the names said
 looked-up : (c : tie.After-known_of) {d : Content} → Said (at-forms c.before.before) d → {k : Known} → c.known_of.result ≡ k → known_of d.names (head-field c.before.before) ≡ k
@@ -83,12 +84,12 @@ head-entry c h = looked-up (at_head c) h c.in-Entry.is
 
 -- the body looked up among the names said
 body-known : (c : tie.After-all_known) {d : Content} → Said (at-forms (at-end (at-known c))) d
-    → FieldsKnown d.names (others (at-end (at-known c))) (at-start (at-forms (at-end (at-known c)))).args.t.used c.all_Known.result (at-start (at-forms (at-end (at-known c)))).args.entries.now c.all_Known.new.1.1.1.0
-body-known c {d} h = c.all_Known.ensures d.names h.keyed (names_held h)
+    → FieldsKnown d.names (others (at-end (at-known c))) (at-start (at-forms (at-end (at-known c)))).args.t.used c.all_known.result (at-start (at-forms (at-end (at-known c)))).args.entries.now c.all_known.new.entries
+body-known c {d} h = c.all_known.ensures d.names h.keyed (names_held h)
 
 -- the fields behind the head decide whether all names are declared
 known-by-body : (c : tie.After-all_known) {d : Content} → Said (at-forms (at-end (at-known c))) d
-    → all_fields (is_known EitherCase d.names) (fields-of (at-forms (at-end (at-known c)))) ≡ c.all_Known.result
+    → all_fields (is_known EitherCase d.names) (fields-of (at-forms (at-end (at-known c)))) ≡ c.all_known.result
 known-by-body c {d} h =
     let end = at-end (at-known c) in
     ap (all_fields (is_known EitherCase d.names)) (parted end) ∙ first_passes (is_known EitherCase d.names) _ _ (is_declared d.names (head-field end) _ _ (head-entry (at-known c) h))
@@ -106,7 +107,7 @@ well-formed-requires c κs = search rules
 returns : tie.Need-returns-then-not-well_formed
 returns c =
     let s = at-start c.before in
-    let bad = not-false _ (sym c.well-formed-2.ensures ∙ not-true _ c.if-not-well_formed.true-raw) in
+    let bad = not-false _ (sym c.well_formed-2.ensures ∙ not-true _ c.if-not-well_formed.true-raw) in
     λ d h. rule_fault (word_step d RuleWord (fields-of c.before)) (rule_malformed h.counted s.requires.1 _ s.args.n s.requires.3 s.requires.2 bad) (λ z. omega arith)
 
 end-of-requires : tie.Need-end_of-e-requires
@@ -175,10 +176,10 @@ returns-4 c =
     let s = at-start (at-forms end) in
     λ d h. let known = known-by-body body h ∙ not-false _ counts.if-not-all_known.false-raw in
     rule_fault (word_step d RuleWord (fields-of (at-forms end)))
-    (⊎_elim
-    (λ many. rule_too_many h.counted s.requires.1 _ s.args.n s.requires.3 s.requires.2 (formed end) known (omega (arith, many.taken)))
-    (λ long. rule_too_long h.counted s.requires.1 _ s.args.n s.requires.3 s.requires.2 (formed end) known (ltb-true _ _ long.1.taken))
-    c.then-rules-ge-MAX_RULES.branch)
+    (elim c.then-rules-ge-MAX_RULES.branch [
+      | then-rules-ge-MAX_RULES-via-then-rules-ge-MAX_RULES w ↦ rule_too_many h.counted s.requires.1 _ s.args.n s.requires.3 s.requires.2 (formed end) known (omega (arith, w.if-rules-ge-MAX_RULES.true))
+      | then-rules-ge-MAX_RULES-via-else-rules-ge-MAX_RULES+then-end-gt-MAX_ENTRIES w ↦ rule_too_long h.counted s.requires.1 _ s.args.n s.requires.3 s.requires.2 (formed end) known w.if-end-gt-MAX_ENTRIES.true
+    ])
     (λ z. omega arith)
 
 cast-put16 : tie.Need-overflow_cast-literal
@@ -220,15 +221,15 @@ returns-5 c =
     let s = at-start (at-forms end) in
     let room : s.args.t.rules < max_rules = omega (arith, (at-stores c).before.if-rules-ge-MAX_RULES.false) in
     let fits = body-fits (at-stores c) in
-    let all_Known = not-false _ counts.if-not-all_known.false in
+    let all_known = not-false _ counts.if-not-all_known.false-raw in
     λ d h. record {
       answer = (
-        rule_fine h.counted s.requires.1 _ s.args.n s.requires.3 s.requires.2 (formed end) (known-by-body body h ∙ all_Known) room fits,
+        rule_fine h.counted s.requires.1 _ s.args.n s.requires.3 s.requires.2 (formed end) (known-by-body body h ∙ all_known) room fits,
         rule_held h (head-field end) (others end) (parted end) s.args.n s.requires.3 room fits,
       );
       stored = λ z. rule_stored h (head-field end) (others end) (parted end) s.args.n s.requires.3 room fits
           (c.put16.ensures ∙ ap (set s.args.heads.now s.args.t.rules) (sym (literal_is d.names (head-field end) _ _ (head-entry told h))))
-          c.put16-2.ensures ((body-known body h).entries_are all_Known);
+          c.put16-2.ensures ((body-known body h).entries_are all_known);
     }
 
 pub rule_line_spec : {M : Type 1} → statement M

@@ -33,10 +33,10 @@ read-file-requires : tie.Need-read_file-requires
 read-file-requires c κs = nothing_held
 
 enum-known-t : tie.Need-enum_known-t
-enum-known-t c = c.in-Fine.keys1
+enum-known-t c = search rules
 
 enum-known-number : tie.Need-enum_known-number
-enum-known-number c = c.in-Fault.keys2
+enum-known-number c = search rules
 
 returns : tie.Need-returns-in-Fine
 returns c =

@@ -19,20 +19,20 @@ other-T k d e q = rw (e, q) refl
 other-Tu : (k : Tree) (d : Bool) → d ≡ true → k ≡ Tree.Tu → T ≡ decided_by (tree_of k) d
 other-Tu k d e q = rw (e, q) refl
 
-returns : tie.Need-returns
-returns c = plain c.before.args.tree c.before.args.default (not-true _ c.if1.true)
+returns : tie.Need-returns-then-not-default
+returns c = plain c.args.tree c.args.default (not-true _ c.if-not-default.true-raw)
 
-enum_told : tie.Need-enum-told
+enum_told : tie.Need-enum_told-1
 enum_told c = search rules
 
-enum-told-2 : tie.Need-enum-told-2
+enum-told-2 : tie.Need-enum_told-in-Tu
 enum-told-2 c = search rules
 
-returns-2 : tie.Need-returns-2
-returns-2 c = other-T _ c.before.before.before.args.default (not-false _ c.before.before.if1.false) c.enum_told.given.1
+returns-2 : tie.Need-returns-in-T
+returns-2 c = other-T _ c.args.default (not-false _ c.if-not-default.false-raw) c.in-T.is
 
-returns-3 : tie.Need-returns-3
-returns-3 c = other-Tu _ c.before.before.before.args.default (not-false _ c.before.before.if1.false) c.enum-told2.given.1
+returns-3 : tie.Need-returns-in-Tu
+returns-3 c = other-Tu _ c.args.default (not-false _ c.if-not-default.false-raw) c.in-Tu.is
 
-pub decided-by-spec : {M : Type 1} → statement M
-decided-by-spec = tie.close (tie.spec returns enum_told enum-told-2 returns-2 returns-3)
+pub decided_by_spec : {M : Type 1} → statement M
+decided_by_spec = tie.close (tie.spec returns enum_told enum-told-2 returns-2 returns-3)

@@ -12,17 +12,17 @@ a-fact f r e = rw e refl
 no_fact : (f q r : Bool) → f ≡ false → q ≡ r → q ≡ (f || r)
 no_fact f q r e s = rw e s
 
-returns : tie.Need-returns
-returns c = a-fact _ _ c.if1.true
+returns : tie.Need-returns-then-fact
+returns c = a-fact _ _ c.if-fact.true
 
-rules-start-requires : tie.Need-rules-start-requires
+rules-start-requires : tie.Need-rules_start-requires
 rules-start-requires c κs = search rules
 
-rules-end-requires : tie.Need-rules-end-requires
+rules-end-requires : tie.Need-rules_end-requires
 rules-end-requires c κs = search rules
 
-returns-2 : tie.Need-returns-2
-returns-2 c = no_fact _ _ _ c.before.before.if1.false (ap₂ ltb c.before.rules-start.ensures c.rules-end.ensures)
+returns-2 : tie.Need-returns
+returns-2 c = no_fact _ _ _ c.if-fact.false (ap₂ ltb c.rules_start.ensures c.rules_end.ensures)
 
-pub is-head-spec : {M : Type 1} → statement M
-is-head-spec = tie.close (tie.spec returns rules-start-requires rules-end-requires returns-2)
+pub is_head_spec : {M : Type 1} → statement M
+is_head_spec = tie.close (tie.spec returns rules-start-requires rules-end-requires returns-2)

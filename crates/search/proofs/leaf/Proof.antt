@@ -27,24 +27,24 @@ head-is r fact f rule x q e h = ap (λ (b : Bool). b || rule) (sym e) ∙ sym q 
 found-requires : tie.Need-found-requires
 found-requires c κs = search rules
 
-returns : tie.Need-returns
+returns : tie.Need-returns-then-mark-ne0
 returns c =
-    let a = c.before.before.before.before.args in
-    c.found.ensures ∙ marked-leaf (head_in a.first.now a.rules.now a.facts.words a.b) _ a.b c.before.if1.true
+    let a = c.args in
+    c.found.ensures ∙ marked-leaf (head_in a.first.now a.rules.now a.facts.words a.b) _ a.b c.if-mark-ne0.true
 
 contains-requires : tie.Need-contains-requires
 contains-requires c κs = search rules
 
-is-head-requires : tie.Need-is-head-requires
+is-head-requires : tie.Need-is_head-requires
 is-head-requires c κs = search rules
 
-returns-2 : tie.Need-returns-2
-returns-2 c = head-leaf _ _ _ c.before.before.before.if1.false (head-is _ _ _ _ _ c.before.is-head.ensures c.before.before.contains.ensures c.if2.true)
+returns-2 : tie.Need-returns-then-is_head
+returns-2 c = head-leaf _ _ _ c.if-mark-ne0.false (head-is _ _ _ _ _ c.is_head.ensures c.contains.ensures c.if-is_head.true)
 
-returns-3 : tie.Need-returns-3
-returns-3 c = bare-leaf _ _ _ c.before.before.before.if1.false (head-is _ _ _ _ _ c.before.is-head.ensures c.before.before.contains.ensures c.if2.false)
+returns-3 : tie.Need-returns
+returns-3 c = bare-leaf _ _ _ c.if-mark-ne0.false (head-is _ _ _ _ _ c.is_head.ensures c.contains.ensures c.if-is_head.false)
 
-pub leaf-spec : {M : Type 1} → statement M
-leaf-spec =
+pub leaf_spec : {M : Type 1} → statement M
+leaf_spec =
     tie.close
     (tie.spec found-requires returns contains-requires is-head-requires returns-2 returns-3)

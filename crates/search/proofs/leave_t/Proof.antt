@@ -21,41 +21,41 @@ waits_there : (f : Finding) (l a : ℕ) (t u : List ℕ) → f ≡ Finding.Waits
 unfolding t_left held_left
 waits_there f l a t u e = rw e (refl, refl)
 
-enum_told : tie.Need-enum-told
+enum_told : tie.Need-enum_told-1
 enum_told c = search rules
 
 turn-requires : tie.Need-turn-requires
 turn-requires c κs = search rules
 
-turn-requires-2 : tie.Need-turn-requires-2
+turn-requires-2 : tie.Need-turn-requires-in-Holds
 turn-requires-2 c κs = search rules
 
-element-write-t : tie.Need-element-write-t
+element-write-t : tie.Need-bounds-t-a
 element-write-t c = search rules
 
-enum-told-2 : tie.Need-enum-told-2
+enum-told-2 : tie.Need-enum_told-in-Fails
 enum-told-2 c = search rules
 
-element-write-t-2 : tie.Need-element-write-t-2
+element-write-t-2 : tie.Need-bounds-t-a-in-Fails
 element-write-t-2 c = search rules
 
-enum-told-3 : tie.Need-enum-told-3
+enum-told-3 : tie.Need-enum_told-in-Waits
 enum-told-3 c = search rules
 
-element-write-t-3 : tie.Need-element-write-t-3
+element-write-t-3 : tie.Need-bounds-t-a-in-Waits
 element-write-t-3 c = search rules
 
-returns : tie.Need-returns
-returns c = holds-there _ _ _ _ _ _ c.before.before.before.before.enum_told.given.1 c.before.before.turn.ensures c.turn2.ensures
+returns : tie.Need-returns-in-Holds
+returns c = holds-there _ _ _ _ _ _ c.in-Holds.is c.turn.ensures c.turn-in-Holds.ensures
 
-returns-2 : tie.Need-returns-2
-returns-2 c = fails-there _ _ _ _ c.enum-told2.given.1
+returns-2 : tie.Need-returns-in-Fails
+returns-2 c = fails-there _ _ _ _ c.in-Fails.is
 
-returns-3 : tie.Need-returns-3
-returns-3 c = waits_there _ _ _ _ _ c.enum-told3.given.1
+returns-3 : tie.Need-returns-in-Waits
+returns-3 c = waits_there _ _ _ _ _ c.in-Waits.is
 
-pub leave-t-spec : {M : Type 1} → statement M
-leave-t-spec =
+pub leave_t_spec : {M : Type 1} → statement M
+leave_t_spec =
     tie.close
     (tie.spec
     enum_told

@@ -21,38 +21,38 @@ waits_there : (f : Finding) (l a : ℕ) (u : List ℕ) → f ≡ Finding.Waits l
 unfolding u_left
 waits_there f l a u e = rw e refl
 
-enum_told : tie.Need-enum-told
+enum_told : tie.Need-enum_told-1
 enum_told c = search rules
 
 turn-requires : tie.Need-turn-requires
 turn-requires c κs = search rules
 
-element-write-tu : tie.Need-element-write-tu
+element-write-tu : tie.Need-bounds-tu-a
 element-write-tu c = search rules
 
-enum-told-2 : tie.Need-enum-told-2
+enum-told-2 : tie.Need-enum_told-in-Fails
 enum-told-2 c = search rules
 
-element-write-tu-2 : tie.Need-element-write-tu-2
+element-write-tu-2 : tie.Need-bounds-tu-a-in-Fails
 element-write-tu-2 c = search rules
 
-enum-told-3 : tie.Need-enum-told-3
+enum-told-3 : tie.Need-enum_told-in-Waits
 enum-told-3 c = search rules
 
-element-write-tu-3 : tie.Need-element-write-tu-3
+element-write-tu-3 : tie.Need-bounds-tu-a-in-Waits
 element-write-tu-3 c = search rules
 
-returns : tie.Need-returns
-returns c = holds-there _ _ _ _ c.before.before.enum_told.given.1 c.turn.ensures
+returns : tie.Need-returns-in-Holds
+returns c = holds-there _ _ _ _ c.in-Holds.is c.turn.ensures
 
-returns-2 : tie.Need-returns-2
-returns-2 c = fails-there _ _ _ c.enum-told2.given.1
+returns-2 : tie.Need-returns-in-Fails
+returns-2 c = fails-there _ _ _ c.in-Fails.is
 
-returns-3 : tie.Need-returns-3
-returns-3 c = waits_there _ _ _ _ c.enum-told3.given.1
+returns-3 : tie.Need-returns-in-Waits
+returns-3 c = waits_there _ _ _ _ c.in-Waits.is
 
-pub leave-tu-spec : {M : Type 1} → statement M
-leave-tu-spec =
+pub leave_tu_spec : {M : Type 1} → statement M
+leave_tu_spec =
     tie.close
     (tie.spec
     enum_told

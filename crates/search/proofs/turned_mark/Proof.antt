@@ -4,11 +4,11 @@ use Rattle.search.proofs.Marks.{turned_is, turned_other}
 use Rattle.search.proofs.turned_mark.Statement.{statement}
 use Rattle.search.proofs.turned_mark.Tie as tie
 
-returns : tie.Need-returns
-returns c = sym (turned_is _ _ _ c.if1.true)
+returns : tie.Need-returns-then-mark-from
+returns c = sym (turned_is _ _ _ c.if-mark-from.true)
 
-returns-2 : tie.Need-returns-2
-returns-2 c = sym (turned_other _ _ _ c.if1.false)
+returns-2 : tie.Need-returns-else-mark-from
+returns-2 c = sym (turned_other _ _ _ c.if-mark-from.false)
 
-pub turned-mark-spec : {M : Type 1} → statement M
-turned-mark-spec = tie.close (tie.spec returns returns-2)
+pub turned_mark_spec : {M : Type 1} → statement M
+turned_mark_spec = tie.close (tie.spec returns returns-2)

@@ -1,0 +1,5 @@
+-- `put_digits`: the number falls with each call.
+use Rattle.lister.proofs.+put_digits.Given as goal
+
+abbrev pub decreases-put_digits : goal.decreases-put_digits
+decreases-put_digits l = l.n
