@@ -13,14 +13,14 @@ fn main() {
         Some(folder) => PathBuf::from(folder),
         None => {
             let package = env::var_os("CARGO_MANIFEST_DIR").expect("cargo names the package");
-            PathBuf::from(package).join("../target/staticlib")
+            PathBuf::from(package).join("../crates/mezhkura/out")
         }
     };
     let archive = folder.join("libmezhkura.a");
     println!("cargo:rerun-if-changed={}", archive.display());
     assert!(
         archive.exists(),
-        "no {}: run `rt staticlib mezhkura` first",
+        "no {}: run `rt lib` in crates/mezhkura first",
         archive.display()
     );
     println!("cargo:rustc-link-search=native={}", folder.display());

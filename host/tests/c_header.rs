@@ -33,7 +33,7 @@ fn compile(more: &[&str]) -> Option<Output> {
 fn archive() -> PathBuf {
     let folder = match std::env::var_os("MEZHKURA_ARCHIVE_DIR") {
         Some(folder) => PathBuf::from(folder),
-        None => package().join("../target/staticlib"),
+        None => package().join("../crates/mezhkura/out"),
     };
     folder.join("libmezhkura.a")
 }

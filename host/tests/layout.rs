@@ -210,9 +210,28 @@ mod archive {
     use mezhkura::second;
     use std::collections::BTreeSet;
 
+    /// A longest file: all names have 16 bytes, and stand in all rules and body literals that a file may have, with `-` at
+    /// each of them and `~` at those of bodies.
+    fn longest_file() -> String {
+        let name = |number: usize| format!("{:x<16}", format!("n{number}_"));
+        let mut file: String = (0..MOST_NAMES)
+            .map(|number| format!("name,{}\n", name(number)))
+            .collect();
+        for rule in 0..MOST_RULES {
+            file += &format!("rule,-{}", name(rule % MOST_NAMES));
+            // The last body literal of all is of the last name.
+            for place in 1..=MOST_BODY_LITERALS / MOST_RULES {
+                let number = ((rule + 1) * place - 1) % MOST_NAMES;
+                file += &format!(",~-{}", name(number));
+            }
+            file.push('\n');
+        }
+        file + "end\n"
+    }
+
     /// The longest file, whose names, rules and body literals fill every place of a book.
     fn full_desks() -> (Desk, second::Desk) {
-        let file = gen::longest_file();
+        let file = longest_file();
         let reply = loaded(&file);
         assert_eq!((reply.number, reply.line), (ACCEPTED, 0));
         let mut second = second::Desk::fresh();
@@ -266,7 +285,7 @@ mod archive {
         // The last places aren't those of a book that stops before them.
         assert_eq!(
             (heads[MOST_RULES - 1], book.entries[MOST_BODY_LITERALS - 1]),
-            (511, 1_023)
+            (255, 511)
         );
     }
 
@@ -324,7 +343,7 @@ mod archive {
     #[test]
     fn every_place_of_an_order_has_its_name() {
         // Each name waits for the next one.
-        let book = gen::long_model_book(MOST_NAMES);
+        let book = gen::long_model_book();
         let desk = loaded(&book.to_file()).desk;
         let OrderReply { number, order } = unsafe { mezhkura_working_order(desk) };
         assert_eq!(
@@ -370,7 +389,7 @@ mod archive {
     #[test]
     fn sizes_and_listings_of_a_full_book_are_those_of_the_file() {
         let (desk, second) = full_desks();
-        let file = gen::longest_file();
+        let file = longest_file();
         let size = unsafe { mezhkura_size(file.as_ptr(), file.len()) };
         let figures = (size.names, size.rules, size.body_literals);
         assert_eq!((size.number, size.line), (ACCEPTED, 0));
@@ -430,7 +449,7 @@ mod archive {
         #[test]
         fn the_archive_writes_as_many_bytes_as_are_declared() {
             let (desk, _) = full_desks();
-            let file = gen::longest_file();
+            let file = longest_file();
             let (start, length) = (file.as_ptr(), file.len());
             let last = 2 * MOST_NAMES - 1;
             let with = unsafe { mezhkura_put_in(desk, last) }.desk;

@@ -21,11 +21,11 @@ fn repository() -> PathBuf {
 fn program() -> Option<PathBuf> {
     let path = match std::env::var_os("MEZHKURA_LISTING") {
         Some(path) => PathBuf::from(path),
-        None => repository().join("target/bin/listing"),
+        None => repository().join("crates/listing/out/listing"),
     };
     if !path.exists() {
         skip::skipped(&format!(
-            "no {}: run `rt check listing` first",
+            "no {}: run `rt run` in crates/listing first",
             path.display()
         ));
         return None;

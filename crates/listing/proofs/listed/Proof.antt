@@ -8,73 +8,53 @@ use Rattle.listing.proofs.Printed.{accepted_printed, refused_printed}
 use Rattle.listing.proofs.listed.Statement.{statement}
 use Rattle.listing.proofs.listed.Tie as tie
 
--- the places: the file loaded, the listing written, the refusal written
-abbrev at-start : tie.After-load → tie.Start
-at-start c = c.before.before.before.before
-
-abbrev at_told : tie.After-listed-in → tie.After-enum-told
-at_told c = c.before.before.before.before.before.before
-
-abbrev at-answer : tie.After-written-in → tie.After-answer
-at-answer c = c.before.before.before.before.before.before
-
-line-fits : (c : tie.After-known-told) → Fits w64 c.before.answer.given.0.1.0
-line-fits c = search rules
-
 fresh-requires : tie.Need-fresh-requires
 fresh-requires c κs = search rules
 
-load-requires : tie.Need-load-requires
+load-requires : tie.Need-load-loaded-requires
 load-requires c κs = search rules
 
-enum_told : tie.Need-enum-told
+enum_told : tie.Need-enum_told-1
 enum_told c = search rules
 
 listing-requires : tie.Need-listing-requires
 listing-requires c κs = search rules
 
-listed-in-requires : tie.Need-listed-in-requires
+listed-in-requires : tie.Need-listed_in-requires
 listed-in-requires c κs = search rules
 
-same_length : tie.Need-same-length
+same_length : tie.Need-shape_of-out-in-Accepted
 same_length c = search rules
 
-returns : tie.Need-returns
+returns : tie.Need-returns-in-Accepted
 returns c =
-    let loaded = (at_told c).before.before in
-    let S = at-start loaded in
-    let listing = c.before.before.before.listing in
-    accepted_printed S.args.file.now _ loaded.before.fresh.ensures loaded.load.result loaded.load.ensures S.pre _
-    (at_told c).enum_told.given.1 listing.result listing.ensures c.Listed-in.ensures
+    accepted_printed c.args.file.now _ c.fresh.ensures c.load-loaded.result c.load-loaded.ensures c.requires _ c.in-Accepted.is c.listing.result c.listing.ensures
+    c.listed_in.ensures
 
-enum-known-answer : tie.Need-enum-known-answer
+enum-known-answer : tie.Need-enum_known-answer
 enum-known-answer c = search rules
 
-write-refusal-requires : tie.Need-write-refusal-requires
+write-refusal-requires : tie.Need-write_refusal-requires
 write-refusal-requires c κs = search rules
 
-written-in-requires : tie.Need-written-in-requires
+written-in-requires : tie.Need-written_in-requires
 written-in-requires c κs = search rules
 
-same-length-2 : tie.Need-same-length-2
+same-length-2 : tie.Need-shape_of-out-in-Refused
 same-length-2 c = search rules
 
-returns-2 : tie.Need-returns-2
+returns-2 : tie.Need-returns-in-Refused
 returns-2 c =
-    let answer = (at-answer c).answer in
-    let loaded = (at-answer c).before.before in
-    let S = at-start loaded in
-    let k = answer.given.0.0 in
-    let at = answer.given.0.1.0 in
+    let k = c.in-Refused.number in
+    let at = c.in-Refused.line in
     let k-fits : Fits w8 k = search rules in
-    let at-fits = line-fits c.before.before.before.before.before in
+    let at-fits : Fits w64 at = search rules in
     let small = refusal_room k at (omega arith) (omega arith) in
-    let written = c.before.before.before.write-refusal in
-    refused_printed S.args.file.now _ loaded.before.fresh.ensures loaded.load.result loaded.load.ensures S.pre _ k at answer.given.1
-    written.result written.ensures (omega (arith, small.fits)) c.written_in.ensures
+    refused_printed c.args.file.now _ c.fresh.ensures c.load-loaded.result c.load-loaded.ensures c.requires _ k at c.in-Refused.is c.write_refusal.result
+    c.write_refusal.ensures (omega (arith, small.fits)) c.written_in.ensures
 
-pub listed-spec : {M : Type 1} → statement M
-listed-spec =
+pub listed_spec : {M : Type 1} → statement M
+listed_spec =
     tie.close
     (tie.spec
     fresh-requires
