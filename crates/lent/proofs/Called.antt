@@ -5,8 +5,8 @@ use mathlib.Core.Path.{◌≡◌, sym, ap, subst}
 use mathlib.Core.List.{List, [], ◌∷◌}
 use Prim.Native.Nat.{ℕ}
 use seplogic.Ra.Ura.{Ura}
-use seplogic.Ra.TreeShare.{full_share}
-use mir.Syntax.{Name, Place, Opd as Operand, Body, seq, call}
+use base.Fraction.{full_share}
+use mir.Syntax.{Callee, Place, Opd as Operand, Body, seq, call}
 use mir.Val.{Val}
 use base.Logic.{SProp, ent, sep, ex, guard, emp, emp∗, via, mono∗, mono_l, ex_e, snd∗}
 use base.Fml.{GName, Fml, ftrue, flft}
@@ -45,7 +45,7 @@ module _ {M : Type 1} {𝓤 : Ura M} (𝓛 : Logic 𝓤) (T : Ended) (c : Clause
   answers tokens required makes are φ clause = record {
     asks = via 𝓤 (sep 𝓤 (emp 𝓤) (emp 𝓤)) (emp∗ 𝓤 (emp 𝓤)) (mono∗ 𝓤 (via 𝓤 (sep 𝓤 (emp 𝓤) (emp 𝓤)) (emp∗ 𝓤 (emp 𝓤)) (mono∗ 𝓤 tokens (owns_make 𝓛 (types_at T.signature.params κs) (Ises (types_at T.signature.params κs)) makes a vss are))) required);
     leaves = λ u.
-        qed 𝓛 (later (some (λ (r : Res T.signature κs). (raw (alive 𝓛 T.signature κs qs) ⊛ ‵ (R.own r (u ∷ []))) ⊛ raw (ensured 𝓛 T c κs a g r))) ∷ []) ∵
+        qed 𝓛 (later (some (λ (r : Res T.signature κs). (raw (alive 𝓛 T.signature κs qs) ⊛ ‵ (R.own_val r (u ∷ []))) ⊛ raw (ensured 𝓛 T c κs a g r))) ∷ []) ∵
         updating ! $ await ! tt $ pick ! (λ r. split ! $ split ! $ drop ! $ peeks ! R (Is R) (shows 𝓛 R) r (u ∷ []) (λ is. drop ! $
         use1 𝓛 (raw (fact 𝓤 (φ r))) (ex_e 𝓤 _ (λ ws. via 𝓤 _ (snd∗ 𝓤 (sem 𝓛 (lasts T κs a ws)) _) (clause r ws))) $ heard ! (φ r) (λ said.
         at_once ! $ show ! (λ (v : Res T.signature κs). guard 𝓤 (Is R v (u ∷ []) × φ v) (emp 𝓤)) r $ check ! (is, said) $ done !)));
@@ -55,7 +55,7 @@ module _ {M : Type 1} {𝓤 : Ura M} (𝓛 : Logic 𝓤) (T : Ended) (c : Clause
       R = type_at T.signature.result κs
 
 -- the call: the operands are read, and the result is stored as the machine value of some r of which φ holds
-module _ {M : Type 1} {𝓤 : Ura M} {𝓛 : Logic 𝓤} {K : Type 0} {Γ : List (Item 𝓤)} {E : Env 𝓤 𝓛.H} {C : Calls 𝓤 𝓛.H} {Λ : Loops 𝓤 𝓛.H} {q : Post 𝓤 𝓛.H} {f : Name} {xs : List Operand} {d : Place} {rest : Body} where
+module _ {M : Type 1} {𝓤 : Ura M} {𝓛 : Logic 𝓤} {K : Type 0} {Γ : List (Item 𝓤)} {E : Env 𝓤 𝓛.H} {C : Calls 𝓤 𝓛.H} {Λ : Loops 𝓤 𝓛.H} {q : Post 𝓤 𝓛.H} {f : Callee} {xs : List Operand} {d : Place} {rest : Body} where
   open 𝓛 use {H}
 
   pub calls_plain : K → FmC 𝓤 H 𝓛.laws C → {c : Contract 𝓤} → Triple 𝓤 (C f) c → {x : c.Ghost} {R : RattleType} {φ : R.Denot → Type 0} → Answers 𝓤 H c x R φ
@@ -83,10 +83,10 @@ module _ {M : Type 1} {𝓤 : Ura M} {𝓛 : Logic 𝓤} {K : Type 0} {Γ : List
 -- ---- a call that borrows
 
 -- what is lent for the time of a call: as it is had before (i), as the callee has it at the lifetime α under the name γ (own), what the callee leaves of it
--- (last), and as it is had again when the lifetime has ended (j)
+-- (last), and as it is had again when the lifetime has ended (j). The lifetime's token is at hand while the loan is given
 pub record Loan {M : Type 1} {𝓤 : Ura M} (𝓛 : Logic 𝓤) (i : Item 𝓤) (own : ℕ → GName → Fml) (last : GName → Fml) (j : Item 𝓤) : Type 2 where
   pub keeps : ℕ → GName → SProp 𝓤
-  pub lends : (α : ℕ) → ent 𝓤 (mean 𝓛 i) (𝓛.H.⇛ (ex 𝓤 (λ (γ : GName). sep 𝓤 (sem 𝓛 (own α γ)) (keeps α γ))))
+  pub lends : (α : ℕ) → ent 𝓤 (sep 𝓤 (𝓛.A.lft (α ∷ []) full_share) (mean 𝓛 i)) (𝓛.H.⇛ (ex 𝓤 (λ (γ : GName). sep 𝓤 (𝓛.A.lft (α ∷ []) full_share) (sep 𝓤 (sem 𝓛 (own α γ)) (keeps α γ)))))
   pub back : (α : ℕ) (γ : GName) → ent 𝓤 (sep 𝓤 (𝓛.A.dead (α ∷ [])) (sep 𝓤 (sem 𝓛 (last γ)) (keeps α γ))) (𝓛.H.⇛ (mean 𝓛 j))
 
 -- at the ghost value of each lifetime and name the contract asks for what is lent, and leaves the facts φ of its result and what is known of the last value
@@ -96,7 +96,7 @@ pub record Borrows {M : Type 1} {𝓤 : Ura M} (𝓛 : Logic 𝓤) (c : Contract
       → ent 𝓤 (c.post (x α γ) u) (𝓛.H.⇛ (ex 𝓤 (λ (r : R.Denot). guard 𝓤 (Is R r (u ∷ []) × φ r) (sep 𝓤 (𝓛.A.lft (α ∷ []) full_share) (sem 𝓛 (last γ))))))
 
 -- the call: a lifetime is made, the loan is given for it, and when the call has returned the lifetime is ended and the loan is back
-module _ {M : Type 1} {𝓤 : Ura M} {𝓛 : Logic 𝓤} {K : Type 0} {Γ : List (Item 𝓤)} {E : Env 𝓤 𝓛.H} {C : Calls 𝓤 𝓛.H} {Λ : Loops 𝓤 𝓛.H} {q : Post 𝓤 𝓛.H} {f : Name} {xs : List Operand} {d : Place} {rest : Body} where
+module _ {M : Type 1} {𝓤 : Ura M} {𝓛 : Logic 𝓤} {K : Type 0} {Γ : List (Item 𝓤)} {E : Env 𝓤 𝓛.H} {C : Calls 𝓤 𝓛.H} {Λ : Loops 𝓤 𝓛.H} {q : Post 𝓤 𝓛.H} {f : Callee} {xs : List Operand} {d : Place} {rest : Body} where
   open 𝓛 use {H}
 
   pub calls_lending : K → FmC 𝓤 H 𝓛.laws C → {c : Contract 𝓤} → Triple 𝓤 (C f) c → {x : ℕ → GName → c.Ghost} {i j : Item 𝓤} {own : ℕ → GName → Fml} {last : GName → Fml} {R : RattleType} {φ : R.Denot → Type 0}
@@ -104,7 +104,7 @@ module _ {M : Type 1} {𝓤 : Ura M} {𝓛 : Logic 𝓤} {K : Type 0} {Γ : List
       → ((α : ℕ) (γ : GName) → Opds K 𝓛 (raw (c.pre (x α γ)) ∷ raw (l.keeps α γ) ∷ Γ) E xs (c.args (x α γ)))
       → ((r : R.Denot) → Is R r (val r ∷ []) → φ r → Seq K 𝓛 (j ∷ Γ) (lands C Λ E d (val r) rest q)) → Seq K 𝓛 (i ∷ Γ) (runs C Λ E (seq (call f xs d) rest) q)
   calls_lending t fm {c} met {x} {i} {j} {own} {last} {R} {φ} l bor val tells os k =
-      lft_new t tt (λ α. move t (1 ∷ []) $ use1 𝓛 (later (some (λ (γ : GName). ‵ (own α γ) ⊛ raw (l.keeps α γ)))) (l.lends α) $ await t tt $ pick t (λ γ. split t $ move t (2 ∷ 0 ∷ []) $
+      lft_new t tt (λ α. use2 𝓛 (later (some (λ (γ : GName). ‵ (flft (α ∷ []) full_share) ⊛ (‵ (own α γ) ⊛ raw (l.keeps α γ))))) (l.lends α) $ await t tt $ pick t (λ γ. split t $ move t (1 ∷ []) $ split t $ move t (2 ∷ 0 ∷ []) $
       use2 𝓛 (raw (c.pre (x α γ))) (bor.asks α γ) $ calls_at t fm c met (x α γ) (os α γ) (λ u.
       use1 𝓛 (later (some (λ (r : R.Denot). given (Is R r (u ∷ []) × φ r) (‵ (flft (α ∷ []) full_share) ⊛ ‵ (last γ))))) (bor.leaves α γ u) $ await t tt $ pick t (λ r. learn t (λ g. split t $ lft_end t tt $
       use3 𝓛 (later j) (l.back α γ) $ await t tt $

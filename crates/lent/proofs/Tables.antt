@@ -5,13 +5,14 @@ use mathlib.Core.List.{List, [], ◌∷◌, map}
 use Prim.Native.Nat.{ℕ}
 use lib.ListN.{length}
 use seplogic.Ra.Ura.{Ura}
-use seplogic.Ra.TreeShare.{full_share}
+use base.Fraction.{full_share}
 use mir.Syntax.{Ty, Width, named, int_big, w16, ty_int, ty_array}
 use mir.Val.{Val, Fits, vint}
-use base.Logic.{SProp, ent, sep, wand, all, guard, via, all_e, apply∗, guard_i}
-use base.Fml.{GName, Fml, ftrue, fsep, fat, fdead, flent}
+use base.Logic.{SProp, ent, sep, wand, all, guard, via, id⊢, all_e, apply∗, guard_i}
+use base.Fml.{GName, Fml, ftrue, fsep, fat, fdead, flent, flft}
 use prog.Wp.{Env}
-use types.Logic.{Logic, sem}
+use ghost.Rules.{Toks}
+use types.Logic.{Logic, sem, lfts}
 use types.Kit.{Item, ‵, raw, ◌⊛◌, some, given, later, mean, ◌$◌, ◌∵◌, !, Go, qed, by, move, use1, use2, use3, drop, split, pick, learn, rewrite, fsplit, fjoin, fpick, fpack, await, updating, now as at_once, show, check, done}
 use types.Tokens.{lent_back}
 use types.SemTy.{cells, Arr}
@@ -28,6 +29,7 @@ use denote.Ref.{MutBor}
 use denote.Slice.{slice_val, MutSlice, ShrSlice, Room, finally}
 use denote.Lend.{Held, lends_slice, slice_back, lends_shr_slice}
 use denote.Index.{row, whole_in, whole_out}
+use denote.Copied.{uint_Copied}
 use denote.Steps.{owned, facts}
 use Rattle.lent.proofs.Called.{Loan}
 
@@ -35,11 +37,10 @@ use Rattle.lent.proofs.Called.{Loan}
 
 -- the numbers as a struct's field has them
 abbrev pub in_field : List ℕ → List ℕ
-in_field xs = map (λ (v : ℕ). v) xs
+in_field xs = xs
 
 in_field_lem : (xs : List ℕ) → in_field xs ≡ xs
-in_field_lem [] = refl
-in_field_lem (x ∷ xs) = ap (λ (l : List ℕ). x ∷ l) (in_field_lem xs)
+in_field_lem xs = refl
 
 abbrev pub table_of : List ℕ → Val
 table_of xs = array_val (map (vint w16) xs)
@@ -60,7 +61,7 @@ module _ (n b o : ℕ) (xs : List ℕ) (α : ℕ) (γ : GName) where
   MutTo = (MutSlice (named 0) (α ∷ []) u16).own_val lent_to (slice_val (b, o) n ∷ [])
 
   abbrev pub ShrTo : Fml
-  ShrTo = (ShrSlice (named 0) (α ∷ []) u16).own_val lent_to (slice_val (b, o) n ∷ [])
+  ShrTo = (ShrSlice (named 0) (α ∷ []) u16).own_val (record { ref_ptr = (b, o); now = xs }) (slice_val (b, o) n ∷ [])
 
 -- the count beside a table's address is a constant whose bound is proved
 module _ {M : Type 1} {𝓤 : Ura M} {𝓛 : Logic 𝓤} {K : Type 0} {Γ : List (Item 𝓤)} {E : Env 𝓤 𝓛.H} {w : Width} {n : ℕ} where
@@ -125,10 +126,10 @@ module _ {M : Type 1} {𝓤 : Ura M} (𝓛 : Logic 𝓤) (n b o : ℕ) where
     mut_loan ys = record {
       keeps = λ α γ. sep 𝓤 (A.lent (α ∷ []) (Held u16 n b o γ)) Left;
       lends = λ α.
-          qed 𝓛 (i ∷ []) ∵ updating ! $ use1 𝓛 (‵ (Numbers xs) ⊛ raw Left) takes_out $ split ! $ fsplit ! $ drop ! $ use1 𝓛 (‵ (cells (mem u16) xs b o)) (whole_in 𝓛 u16 xs b o) $
+          qed 𝓛 (‵ (flft (α ∷ []) full_share) ∷ i ∷ []) ∵ updating ! $ move ! (1 ∷ []) $ use1 𝓛 (‵ (Numbers xs) ⊛ raw Left) takes_out $ split ! $ fsplit ! $ drop ! $ use1 𝓛 (‵ (cells (mem u16) xs b o)) (whole_in 𝓛 u16 xs b o) $
           use1 𝓛 (later (some (λ (γ : GName). ‵ (MutTo (length xs) b o xs α γ) ⊛ ‵ (flent (α ∷ []) (Held u16 (length xs) b o γ))))) (lends_slice 𝓛 u16 (named 0) (α ∷ []) xs b o (subst (Room u16) (sym long) room)) $
           await ! tt $ pick ! (λ γ. split ! $ rewrite ! 0 (λ (m : ℕ). ‵ (MutTo m b o xs α γ)) long refl $ rewrite ! 1 (λ (m : ℕ). ‵ (flent (α ∷ []) (Held u16 m b o γ))) long refl $
-          at_once ! $ show ! (λ (δ : GName). sep 𝓤 ⟦ MutTo n b o xs α δ ⟧ (sep 𝓤 (A.lent (α ∷ []) (Held u16 n b o δ)) Left)) γ $ done !);
+          at_once ! $ move ! (3 ∷ []) $ show ! (λ (δ : GName). sep 𝓤 (A.lft (α ∷ []) full_share) (sep 𝓤 ⟦ MutTo n b o xs α δ ⟧ (sep 𝓤 (A.lent (α ∷ []) (Held u16 n b o δ)) Left))) γ $ done !);
       back = λ α γ.
           qed 𝓛 (‵ (fdead (α ∷ [])) ∷ ‵ (finally u16 γ ys) ∷ (‵ (flent (α ∷ []) (Held u16 n b o γ)) ⊛ raw Left) ∷ []) ∵ updating ! $ move ! (2 ∷ []) $ split ! $ move ! (2 ∷ 0 ∷ 3 ∷ []) $
           use3 𝓛 (later (‵ ((Arr (mem u16) n).own_at ys b o))) (slice_back 𝓛 u16 (α ∷ []) γ ys n b o) $ await ! tt $ fsplit ! $ move ! (1 ∷ []) $
@@ -140,11 +141,14 @@ module _ {M : Type 1} {𝓤 : Ura M} (𝓛 : Logic 𝓤) (n b o : ℕ) where
     shr_loan = record {
       keeps = λ α γ. sep 𝓤 (A.lent (α ∷ []) (Numbers xs)) Left;
       lends = λ α.
-          qed 𝓛 (i ∷ []) ∵ updating ! $ use1 𝓛 (‵ (Numbers xs) ⊛ raw Left) takes_out $ split ! $ rewrite ! 0 (λ (m : ℕ). ‵ ((arr_parts (shares u16) m).part full_share xs b o)) (sym long) refl $
-          use1 𝓛 (later (some (λ (γ : GName). ‵ (ShrTo (length xs) b o xs α γ) ⊛ ‵ (flent (α ∷ []) ((arr_parts (shares u16) (length xs)).part full_share xs b o)))))
-          (lends_shr_slice 𝓛 u16 (named 0) (α ∷ []) full_share xs b o (subst (Room u16) (sym long) room)) $ await ! tt $ pick ! (λ γ. split ! $
-          rewrite ! 0 (λ (m : ℕ). ‵ (ShrTo m b o xs α γ)) long refl $ rewrite ! 1 (λ (m : ℕ). ‵ (flent (α ∷ []) ((arr_parts (shares u16) m).part full_share xs b o))) long refl $
-          at_once ! $ show ! (λ (δ : GName). sep 𝓤 ⟦ ShrTo n b o xs α δ ⟧ (sep 𝓤 (A.lent (α ∷ []) (Numbers xs)) Left)) γ $ done !);
+          let token : Toks = (α ∷ [], full_share) ∷ [] in
+          qed 𝓛 (‵ (flft (α ∷ []) full_share) ∷ i ∷ []) ∵ updating ! $ use1 𝓛 (raw (lfts 𝓛 token)) (id⊢ 𝓤 _) $ move ! (1 ∷ []) $ use1 𝓛 (‵ (Numbers xs) ⊛ raw Left) takes_out $ split ! $
+          rewrite ! 0 (λ (m : ℕ). ‵ ((arr_parts (shares u16) m).part full_share xs b o)) (sym long) refl $ move ! (0 ∷ 2 ∷ []) $
+          use2 𝓛 (later ((‵ (ShrTo (length xs) b o xs α 0) ⊛ ‵ (flent (α ∷ []) ((arr_parts (shares u16) (length xs)).part full_share xs b o))) ⊛ raw (lfts 𝓛 token)))
+          (lends_shr_slice 𝓛 u16 (named 0) (α ∷ []) full_share xs b o (subst (Room u16) (sym long) room) (α ∷ []) ((uint_Copied 𝓛 w16).shares full_share (α ∷ [])) token (λ _ m. m) (λ _ m. m)) $
+          await ! tt $ split ! $ split ! $
+          rewrite ! 0 (λ (m : ℕ). ‵ (ShrTo m b o xs α 0)) long refl $ rewrite ! 1 (λ (m : ℕ). ‵ (flent (α ∷ []) ((arr_parts (shares u16) m).part full_share xs b o))) long refl $
+          at_once ! $ move ! (2 ∷ 0 ∷ 1 ∷ []) $ show ! (λ (δ : GName). sep 𝓤 (A.lft (α ∷ []) full_share) (sep 𝓤 ⟦ ShrTo n b o xs α δ ⟧ (sep 𝓤 (A.lent (α ∷ []) (Numbers xs)) Left))) 0 $ done !;
       back = λ α γ.
           qed 𝓛 (‵ (fdead (α ∷ [])) ∷ ‵ ftrue ∷ (‵ (flent (α ∷ []) (Numbers xs)) ⊛ raw Left) ∷ []) ∵ updating ! $ move ! (1 ∷ []) $ drop ! $ move ! (1 ∷ []) $ split ! $ move ! (2 ∷ 0 ∷ []) $ lent_back ! tt $ at_once ! $
           use2 𝓛 (given (IsTable n xs) (back (table_of (in_field xs)))) (puts_in xs) $ learn ! (λ _. rewrite ! 0 (λ (j : Item 𝓤). j) p.same refl $ done !);

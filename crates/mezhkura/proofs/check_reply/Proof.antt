@@ -5,17 +5,17 @@ use Rattle.mezhkura.specs.Numbers.{check_numbers}
 use Rattle.mezhkura.proofs.check_reply.Statement.{statement}
 use Rattle.mezhkura.proofs.check_reply.Tie as tie
 
-enum_told : tie.Need-enum-told
+enum_told : tie.Need-enum_told-1
 enum_told c = search rules
 
-enum-known-a : tie.Need-enum-known-a
+enum-known-a : tie.Need-enum_known-a
 enum-known-a c = search rules
 
-returns : tie.Need-returns
-returns c = ap check_numbers (sym c.enum_told.given.1)
+returns : tie.Need-returns-in-Accepted
+returns c = ap check_numbers (sym c.in-Accepted.is)
 
-returns-2 : tie.Need-returns-2
-returns-2 c = ap check_numbers (sym c.before.a.given.1)
+returns-2 : tie.Need-returns-in-Refused
+returns-2 c = ap check_numbers (sym c.in-Refused.is)
 
-pub check-reply-spec : {M : Type 1} → statement M
-check-reply-spec = tie.close (tie.spec enum_told enum-known-a returns returns-2)
+pub check_reply_spec : {M : Type 1} → statement M
+check_reply_spec = tie.close (tie.spec enum_told enum-known-a returns returns-2)

@@ -9,34 +9,34 @@ use Rattle.mezhkura.specs.Numbers.{is_set}
 use Rattle.mezhkura.proofs.mezhkura_search.Statement.{statement}
 use Rattle.mezhkura.proofs.mezhkura_search.Tie as tie
 
-is-set-requires : tie.Need-is-set-requires
+is-set-requires : tie.Need-is_set-requires
 is-set-requires c κs = search rules
 
-kind-of-requires : tie.Need-kind-of-requires
+kind-of-requires : tie.Need-kind_of-requires
 kind-of-requires c κs = search rules
 
-search-requires : tie.Need-search-requires
+search-requires : tie.Need-search-answer-requires
 search-requires c κs = search rules
 
-search-number-requires : tie.Need-search-number-requires
+search-number-requires : tie.Need-search_number-requires
 search-number-requires c κs = search rules
 
-search-value-requires : tie.Need-search-value-requires
+search-value-requires : tie.Need-search_value-requires
 search-value-requires c κs = search rules
 
 returns : tie.Need-returns
 returns c =
     let d = c.before.before in
-    let a = d.before.before.before.args in
-    let asked = subst (λ (x : Bool). Searches a.desk.shelf a.desk.lesson a.literal (tree_of d.before.kind-of.result) (question_of a.literal x) d.search.result) d.before.before.is_set.ensures d.search.ensures in (
-      d.search.result,
-      subst (λ (x : Tree). Searches a.desk.shelf a.desk.lesson a.literal (tree_of x) (question_of a.literal (is_set a.default)) d.search.result) d.before.kind-of.ensures asked,
-      c.before.search-number.ensures,
-      c.search-value.ensures,
+    let a = d.args in
+    let asked = subst (λ (x : Bool). Searches a.desk.shelf a.desk.lesson a.literal (tree_of d.kind_of.result) (question_of a.literal x) d.search-answer.result) d.is_set.ensures d.search-answer.ensures in (
+      d.search-answer.result,
+      subst (λ (x : Tree). Searches a.desk.shelf a.desk.lesson a.literal (tree_of x) (question_of a.literal (is_set a.default)) d.search-answer.result) d.kind_of.ensures asked,
+      c.search_number.ensures,
+      c.search_value.ensures,
     )
 
-pub mezhkura-search-spec : {M : Type 1} → statement M
-mezhkura-search-spec =
+pub mezhkura_search_spec : {M : Type 1} → statement M
+mezhkura_search_spec =
     tie.close
     (tie.spec
     is-set-requires

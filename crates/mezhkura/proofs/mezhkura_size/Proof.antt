@@ -8,17 +8,17 @@ use Rattle.mezhkura.proofs.mezhkura_size.Tie as tie
 size-requires : tie.Need-size-requires
 size-requires c κs = search rules
 
-enum-known-names : tie.Need-enum-known-names
+enum-known-names : tie.Need-enum_known-names
 enum-known-names c = search rules
 
-enum-known-number : tie.Need-enum-known-number
+enum-known-number : tie.Need-enum_known-number
 enum-known-number c = search rules
 
-returns : tie.Need-returns
-returns c = ap size_numbers (sym c.before.names.given.1 ∙ c.before.before.before.size.ensures)
+returns : tie.Need-returns-in-Accepted
+returns c = ap size_numbers (sym c.in-Accepted.is ∙ c.size.ensures)
 
-returns-2 : tie.Need-returns-2
-returns-2 c = ap size_numbers (sym c.before.number.given.1 ∙ c.before.before.before.size.ensures)
+returns-2 : tie.Need-returns-in-Refused
+returns-2 c = ap size_numbers (sym c.in-Refused.is ∙ c.size.ensures)
 
-pub mezhkura-size-spec : {M : Type 1} → statement M
-mezhkura-size-spec = tie.close (tie.spec size-requires enum-known-names enum-known-number returns returns-2)
+pub mezhkura_size_spec : {M : Type 1} → statement M
+mezhkura_size_spec = tie.close (tie.spec size-requires enum-known-names enum-known-number returns returns-2)
