@@ -68,6 +68,7 @@ fn all_in_name(s: &[u8]) -> bool
     true
 }
 
+#[tactic(auto, using(crate::proofs::Names::name_none, crate::proofs::Names::name_long, crate::proofs::Names::name_first, crate::proofs::Names::name_rest))]
 pub fn is_name(s: &[u8]) -> bool
     ensures { result ≡ is_name EitherCase s.now }
 {
@@ -94,6 +95,7 @@ fn is_text(b: u8) -> bool
 }
 
 // Whether every byte may stand in a file.
+#[tactic(auto, using(crate::proofs::Bytes::bytes_stop, crate::proofs::Bytes::bytes_go, crate::proofs::Bytes::bytes_end))]
 pub fn all_text(s: &[u8]) -> bool
     ensures { result ≡ all_bytes is_text s.now }
 {

@@ -182,6 +182,7 @@ fn left_open<'a>(
 }
 
 // Whether the number is that of a rule of the literal whose body is shown.
+#[tactic(auto, using(crate::proofs::Tables::names_past, crate::proofs::Tables::names_other, crate::proofs::Tables::names_body))]
 fn rule_shown<'a>(
     heads: &'a [u16],
     starts: &'a [u16],
@@ -469,6 +470,7 @@ fn refuse(number: u8, index: usize) -> Judgement
 }
 
 // The first n entries of a sheet are judged for the claim that a literal is true, or that it is false.
+#[tactic(auto, using(crate::proofs::Judged::no_entries, crate::proofs::Judged::too_many))]
 pub fn judge(
     book: Book,
     facts: LitSet,

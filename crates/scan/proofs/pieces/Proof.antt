@@ -1,7 +1,6 @@
 -- `pieces`: the stops passed and the pieces of what is left make the pieces of the whole.
 use borrow.Author.Rules.{rules}
 use mathlib.Core.Path.{◌≡◌}
-use mathlib.Core.Logic.{⊎_elim}
 use Prim.Native.Nat.{◌≤◌, ◌+◌, ◌-◌}
 use lib.ListN.{length, drop}
 use Rattle.scan.specs.Text.{split}

@@ -1,0 +1,12 @@
+-- `difference`: the loop's invariant is that the words passed have the bits of the second set cleared and the others are still those of the first.
+use Rattle.std.proofs.Common.{◌≡◌, length, ◌-◌, ◌≤◌}
+use Rattle.nameset.specs.Names.{name_words}
+use Rattle.litset.proofs.Bit.{clear}
+use Rattle.litset.proofs.Words.{Joined}
+use Rattle.nameset.proofs.difference.Given as goal
+
+abbrev pub invariant-loop-i : goal.invariant-loop-i
+invariant-loop-i l = (l.i ≤ name_words) × (length l.t.words ≡ name_words) × Joined clear l.initial.t.words l.b.words l.t.words l.i
+
+abbrev pub decreases-loop-i : goal.decreases-loop-i
+decreases-loop-i l = name_words - l.i
