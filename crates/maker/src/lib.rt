@@ -249,7 +249,8 @@ pub fn make(book: Book, facts: LitSet, literal: usize, truth: bool) -> Made
         if is_claimed(t, f, literal, truth) {
             return in_table(true, n, fields);
         }
-        if n == m {
+        let done = n == m;
+        if done {
             return in_table(false, n, fields);
         }
     }

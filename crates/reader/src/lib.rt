@@ -65,7 +65,8 @@ fn name_line(
     let Found::Nothing = keys::find(keys, hints, count, key) else {
         return LineAnswer::Fault(6);
     };
-    if book::MAX_NAMES <= count {
+    let full = book::MAX_NAMES <= count;
+    if full {
         return LineAnswer::Fault(8);
     }
     keys::put(keys, hints, count, key);
@@ -107,7 +108,8 @@ fn well_formed(rule: &[u8]) -> bool
     let Form::Literal { tildes, minuses: _ } = scan::form_of(&rule[0..e]) else {
         return false;
     };
-    if tildes != 0 {
+    let marked = tildes != 0;
+    if marked {
         return false;
     }
     all_literals(rule, e + 1)
@@ -192,7 +194,9 @@ fn rule_line(
     }
     let rules = t.rules;
     let end = t.used + n;
-    if book::MAX_RULES <= rules || book::MAX_ENTRIES < end {
+    let many = book::MAX_RULES <= rules;
+    let long = book::MAX_ENTRIES < end;
+    if many || long {
         return LineAnswer::Fault(8);
     }
     store::put16(heads, rules, literal as u16);
@@ -344,14 +348,16 @@ fn read_file(
         text.new lengths.new heads.new starts.new entries.new }
 {
     let n = file.len();
-    if MAX_BYTES < n {
+    let long = MAX_BYTES < n;
+    if long {
         return FileAnswer::Fault { number: 1, line: 0 };
     }
     if !scan::all_text(file) {
         return FileAnswer::Fault { number: 2, line: 0 };
     }
     // A file of no bytes has no lines, and needs no `end`.
-    if n == 0 {
+    let bare = n == 0;
+    if bare {
         return FileAnswer::Fine(none_yet());
     }
     if file[n - 1] != b'\n' {

@@ -214,10 +214,10 @@ returns c =
     rw c.in_table.ensures
     (made_found (its_rules from) (facts from) (known from) _ (known_is from) (few from) (facts_room from) (small from) truths.put_truths-s.new.fields truths.put_truths-s.result.count (shown-too truths) (rules_are from) (known_is from) _ _ (sym claimed.is_claimed.ensures ∙ c.if-is_claimed.true))
 
-in-table-requires-2 : tie.Need-in_table-requires-then-n-m invariant-loop decreases-loop
+in-table-requires-2 : tie.Need-in_table-requires-then-done invariant-loop decreases-loop
 in-table-requires-2 c κs = search rules
 
-returns-2 : tie.Need-returns-then-n-m invariant-loop decreases-loop
+returns-2 : tie.Need-returns-then-done invariant-loop decreases-loop
 returns-2 c =
     let last = c.before in
     let claimed = last.before.before in
@@ -226,15 +226,15 @@ returns-2 c =
     let group = at-group union in
     let from = from group in
     let covers = group_covers (its_rules from) (facts from) (known from) _ (known_is from) (few from) (facts_room from) (small from) (at group).loop-facts.invariant.1 (underived group) from.from-all.ensures (group_is group) union.union-f.ensures in
-    rw c.in_table-then-n-m.ensures
-    (made_none (its_rules from) (facts from) (known from) _ (known_is from) (few from) (facts_room from) (small from) truths.put_truths-s.new.fields truths.put_truths-s.result.count (shown-too truths) (rules_are from) (known_is from) _ _ (rw (← none-added truths last.if-n-m.true) covers) truths.put_truths-s.ensures.1 (sym claimed.is_claimed.ensures ∙ last.if-is_claimed.false))
+    rw c.in_table-then-done.ensures
+    (made_none (its_rules from) (facts from) (known from) _ (known_is from) (few from) (facts_room from) (small from) truths.put_truths-s.new.fields truths.put_truths-s.result.count (shown-too truths) (rules_are from) (known_is from) _ _ (rw (← none-added truths (omega (arith, last.if-done.true))) covers) truths.put_truths-s.ensures.1 (sym claimed.is_claimed.ensures ∙ last.if-is_claimed.false))
 
 loop-less : tie.Need-loop-facts-smaller invariant-loop decreases-loop
 loop-less c =
     let truths = c.before.before.before.before.before in
     let union = at-union truths in
     let from = from (at-group union) in
-    omega (arith, longer truths, union.put_members-m.ensures.0, few_there (its_rules from) (facts from) (known from) _ (known_is from) (few from) (facts_room from) (small from) truths.put_truths-s.new.fields truths.put_truths-s.result.count (shown-too truths), c.if-n-m.false)
+    omega (arith, longer truths, union.put_members-m.ensures.0, few_there (its_rules from) (facts from) (known from) _ (known_is from) (few from) (facts_room from) (small from) truths.put_truths-s.new.fields truths.put_truths-s.result.count (shown-too truths), c.if-done.false)
 
 loop-again : tie.Need-loop-facts-preserved invariant-loop decreases-loop
 loop-again c = let truths = c.before.before.before.before.before in (c.fields-in-loop-facts-4-1.given, shown-too truths)

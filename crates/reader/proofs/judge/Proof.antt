@@ -182,7 +182,7 @@ rule-line-requires c κs =
     let arm = at-rule c in
     let end = at-end arm.before.before in
     let body = body_count (counted arm.before.before.before.before.before) (some-fields arm) in
-    ((at-start end.before).requires, end.before.if-t.false, body.0, body.1 ∙ sym (ap length (rule-part arm)))
+    ((at-start end.before).requires, end.before.if-t.false, omega (arith, body.0), body.1 ∙ sym (ap length (rule-part arm)))
 
 enum-told-3 : tie.Need-enum_told-in-End
 enum-told-3 c = search rules
