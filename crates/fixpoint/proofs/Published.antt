@@ -62,7 +62,7 @@ module _ (P : Program) (small : Heads⊆ P room) where
 pub verdict_same : (P : Program) (T U : Set) → T ≡ M P → U ≡ N P → (A : ℕ) → verdict_in T U A ≡ verdict P A
 verdict_same P T U t u A = ap₂ (λ (T U : Set). verdict_in T U A) t u ∙ sym (verdict_is_lem P A)
 
--- a program has one model: its sets settle their words (`set-settles`)
+-- a program has one model: its sets settle their words (`set_settles`)
 pub model_settles : (P : Program) (m n : Model) → ModelOf P m → ModelOf P n
     → (set_of m.truths.words ≡ set_of n.truths.words) × (set_of m.nonfalse.words ≡ set_of n.nonfalse.words) × (m.rounds ≡ n.rounds)
 model_settles P m n is other = (is.truths ∙ sym other.truths, is.nonfalse ∙ sym other.nonfalse, is.rounds ∙ sym other.rounds)

@@ -113,7 +113,7 @@ listing_of names rules facts =
     listing_by names (length rules) (length put_in) (rounds P) (words_of P) (clash_in (M P))
 
 -- the same by sets and a number in the place of M, N, the literals whose verdicts 24 would refuse, and the rounds (`proofs/Standing.antt`: with these it
--- is `listingOf`)
+-- is `listing_of`)
 unfoldable pub listing_by_sets : List (List ℕ) → List Rule → Set → Set → Set → Set → ℕ → List ℕ
 listing_by_sets names rules facts T U C k =
     listing_by names (length rules) (length (members capacity facts)) k (mark_word (verdict_in T U) C) (clash_in T)

@@ -1,4 +1,4 @@
--- Laws of `setOf`, over a list of words of any length.
+-- Laws of `set_of`, over a list of words of any length.
 use mathlib.Core.Path.{◌≡◌, refl, sym, ap, ◌∙◌, fun_ext}
 use mathlib.Core.Bool.{Bool, true, false, not, ◌&&◌, ◌||◌, and-true, or-true, or-false, true≢false}
 use mathlib.Core.List.{List}

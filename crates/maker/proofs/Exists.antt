@@ -46,7 +46,7 @@ tabled es h =
 
 -- ---- rounds
 
-module _ (rules : List Rule) (facts : Set) (known names : ℕ) (Known-is : known ≡ 2 * names) (few : names ≤ max_names) (facts_room : (A : ℕ) → A ∈ facts → A < capacity)
+module _ (rules : List Rule) (facts : Set) (known names : ℕ) (known_is : known ≡ 2 * names) (few : names ≤ max_names) (facts_room : (A : ℕ) → A ∈ facts → A < capacity)
     (small : (r : Rule) → r is_in rules → (B : ℕ) → positive B is_in r.body → B < capacity) where
   -- a sheet to which nothing can be added
   record Whole : Type 0 where
@@ -58,7 +58,7 @@ module _ (rules : List Rule) (facts : Set) (known names : ℕ) (Known-is : known
     pub last : passed known F 0 rules T ≡ []
 
   rounds_from : (fuel : ℕ) (es : List SheetEntry) (T F : Set) → Making rules facts known es T F → 2 * known < fuel + length es → Whole
-  rounds_from zero es T F s h = absurd (omega (arith, making_few rules facts known names Known-is few facts_room small s))
+  rounds_from zero es T F s h = absurd (omega (arith, making_few rules facts known names known_is few facts_room small s))
   rounds_from (suc fuel) es T F s h = go (passed known E 0 rules T) refl (rounds_from fuel)
     where
       D : Set
@@ -74,26 +74,26 @@ module _ (rules : List Rule) (facts : Set) (known names : ℕ) (Known-is : known
       written = map (member_entry 0 (length es)) (members known G)
 
       grouped : Making rules facts known (es ++ written) T E
-      grouped = with_group rules facts known names Known-is few facts_room small s refl refl refl refl
+      grouped = with_group rules facts known names known_is few facts_room small s refl refl refl refl
 
       go : (W : List SheetEntry) → passed known E 0 rules T ≡ W → ((ds : List SheetEntry) (U X : Set) → Making rules facts known ds U X → 2 * known < fuel + length ds → Whole) → Whole
-      go [] e rest = record { es = _; T = T; F = E; making = grouped; covers = group_covers rules facts known names Known-is few facts_room small s refl refl refl refl; last = e }
+      go [] e rest = record { es = _; T = T; F = E; making = grouped; covers = group_covers rules facts known names known_is few facts_room small s refl refl refl refl; last = e }
       go (w ∷ W) e rest =
-          rest _ _ E (with_passes rules facts known names Known-is few facts_room small grouped (one_more none_yet))
+          rest _ _ E (with_passes rules facts known names known_is few facts_room small grouped (one_more none_yet))
           (omega (arith, ap length e, length-append es written, length-append (es ++ written) (passed known E 0 rules T)))
 
   pub made_exists : (truth : Bool) (A : ℕ) → (m : Made) × MadeFor rules facts known truth A m
   made_exists truth A = go (decided (cond truth (w.T A) (w.F A)))
     where
       w : Whole
-      w = rounds_from (suc (2 * known)) _ _ _ (making_start rules facts known names Known-is few facts_room small refl refl) (omega arith)
+      w = rounds_from (suc (2 * known)) _ _ _ (making_start rules facts known names known_is few facts_room small refl refl) (omega arith)
 
       table : (s : Sheet) × (entries_in s.fields (length w.es) ≡ w.es)
-      table = tabled w.es (omega (arith, Known-is, making_few rules facts known names Known-is few facts_room small w.making))
+      table = tabled w.es (omega (arith, known_is, making_few rules facts known names known_is few facts_room small w.making))
 
       there : Making rules facts known (entries_in table.0.fields (length w.es)) w.T w.F
       there = rw table.1 w.making
 
       go : (cond truth (w.T A) (w.F A) ≡ true) ⊎ (cond truth (w.T A) (w.F A) ≡ false) → (m : Made) × MadeFor rules facts known truth A m
-      go (inl e) = (_, made_found rules facts known names Known-is few facts_room small table.0.fields (length w.es) there refl refl truth A e)
-      go (inr e) = (_, made_none rules facts known names Known-is few facts_room small table.0.fields (length w.es) there refl refl truth A w.covers w.last e)
+      go (inl e) = (_, made_found rules facts known names known_is few facts_room small table.0.fields (length w.es) there refl refl truth A e)
+      go (inr e) = (_, made_none rules facts known names known_is few facts_room small table.0.fields (length w.es) there refl refl truth A w.covers w.last e)

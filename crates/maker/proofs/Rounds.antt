@@ -188,7 +188,7 @@ compl_unknown known names A is h l = go (ℕ_discrete (A % 2) 0)
     go (yes e) = let c = compl_plain A e in omega arith
     go (no e) = let c = compl_negated A e in omega arith
 
-module _ (rules : List Rule) (facts : Set) (known names : ℕ) (Known-is : known ≡ 2 * names) (few : names ≤ max_names) (facts_room : (A : ℕ) → A ∈ facts → A < capacity)
+module _ (rules : List Rule) (facts : Set) (known names : ℕ) (known_is : known ≡ 2 * names) (few : names ≤ max_names) (facts_room : (A : ℕ) → A ∈ facts → A < capacity)
     (small : (r : Rule) → r is_in rules → (B : ℕ) → positive B is_in r.body → B < capacity) where
   -- the facts, and the literals that are not known
   abbrev pub possible : Set
@@ -227,7 +227,7 @@ module _ (rules : List Rule) (facts : Set) (known names : ℕ) (Known-is : known
     -- what is not known is derived, since it counts as a fact
     unknown_derived : (A : ℕ) → known ≤ A → A < capacity → A ∈ Γs Q T
     unknown_derived A h r =
-        Γs-has Q T A (refuted (λ c. compl_unknown known names A Known-is h (T-known (compl A) c)))
+        Γs-has Q T A (refuted (λ c. compl_unknown known names A known_is h (T-known (compl A) c)))
         (supported_facts rules capacity possible possible_room (holds (Γs Q T) T) A ∙ or_r (supported rules (holds (Γs Q T) T) A) _ (or_r (facts A) _ (and_intro (leb known A) _ (le-leb known A h) (lt-ltb A capacity r))))
 
     -- the known literals outside Γs(T) that are not in F
@@ -312,7 +312,7 @@ module _ (rules : List Rule) (facts : Set) (known names : ℕ) (Known-is : known
       group_fits = omega (arith, s.bounded, group_size T s.truths_known F G the_group, ap (size_below known) E-is)
 
       pub group_room : 4 * (length es + size_below known G) ≤ 4 * max_sheet
-      group_room = omega (arith, Known-is, group_fits, length_most T 0 known, length_most E 0 known)
+      group_room = omega (arith, known_is, group_fits, length_most T 0 known, length_most E 0 known)
 
       pub with_group : Making rules facts known (es ++ map (member_entry 0 (length es)) (members known G)) T E
       with_group =

@@ -1,4 +1,4 @@
--- A list of words of 64 bits as a set of names; that of its members is the set of literals' (`setOf`).
+-- A list of words of 64 bits as a set of names; that of its members is the set of literals' (`set_of`).
 use Rattle.std.specs.Prelude.{cond, ◌&&◌, ℕ, ◌*◌, ◌/◌, ◌%◌, ◌^◌, ◌<◌, eqb, ltb}
 use Rattle.std.specs.Int.Bits.{bit_or}
 use Rattle.wfsx.specs.Sets.{Set, ◌∈◌, ◌∉◌}

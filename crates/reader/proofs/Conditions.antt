@@ -66,7 +66,7 @@ unfolding read_lines
 lines_stop d at k line lines f =
     let rows = field_rows d (fields line) in
     let e = gives_first (line_fault EitherCase d (fields line)) rows refl (line_gives d line) k f in
-    let Some-number = (first_between 1 9 k rows refl f).0 in
+    let some_number = (first_between 1 9 k rows refl f).0 in
     rw (e, ne_eqb k 0 (λ z. omega arith))
 
 -- where lines after d, from line `at` on, are refused with k at line p
@@ -152,7 +152,7 @@ module _ (file : List ℕ) where
 
   file_stops : (k : ℕ) → First k (file_rows file) → read_file EitherCase file ≡ refused k 0
   file_stops k f =
-      let Some-number = (first_between 1 9 k (file_rows file) refl f).0 in
+      let some_number = (first_between 1 9 k (file_rows file) refl f).0 in
       read_file_is ∙ rw (gives_first (file_fault file) (file_rows file) refl file_gives k f, ne_eqb k 0 (λ z. omega arith))
 
   abbrev ByFile : Type 0

@@ -1,5 +1,5 @@
 -- The conditions of the table in document 01, "When a call is turned down by its input", said of a file and its lines as propositions, and the order
--- in which they decide; document 02, A.4, accepts a file of no bytes. They don't use the tests of `readFile`; `proofs/Conditions.antt` shows that it
+-- in which they decide; document 02, A.4, accepts a file of no bytes. They don't use the tests of `read_file`; `proofs/Conditions.antt` shows that it
 -- gives each number under its condition and under no other.
 use Rattle.std.specs.Prelude.{◌≡◌, ◌⊎◌, true, false, List, [], ◌∷◌, ◌++◌, ℕ, ◌+◌, ◌-◌, ◌≤◌, ◌<◌, length, get_or, drop}
 use Rattle.wfsx.specs.Sets.{◌is_in◌}

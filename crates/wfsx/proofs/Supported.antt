@@ -1,4 +1,4 @@
--- Laws of `supported`. Every proof about Γ, Γs and the trees compares two tests by `supported-map` and looks into no rule; only the published
+-- Laws of `supported`. Every proof about Γ, Γs and the trees compares two tests by `supported_map` and looks into no rule; only the published
 -- notion of a closed set takes the rules apart.
 use mathlib.Core.Path.{◌≡◌, refl, sym, ◌∙◌, ap}
 use mathlib.Core.Logic.{◌⊎◌, inl, inr}

@@ -1,4 +1,4 @@
--- `decided_by`: the clauses of `decidedBy`.
+-- `decided_by`: the clauses of `decided_by`.
 use mathlib.Core.Path.{◌≡◌, refl}
 use mathlib.Core.Bool.{Bool, true, false}
 use borrow.Author.Rules.{rules}

@@ -1,4 +1,4 @@
--- `leaf`: the arms of `leafSays`.
+-- `leaf`: the arms of `leaf_says`.
 use mathlib.Core.Path.{◌≡◌, refl, sym, ◌∙◌, ap}
 use mathlib.Core.Bool.{Bool, true, false, not, ◌||◌}
 use Prim.Native.Nat.{ℕ}

@@ -1,4 +1,4 @@
--- `leave_t`: the clauses of `tLeft` and `heldLeft`.
+-- `leave_t`: the clauses of `t_left` and `held_left`.
 use mathlib.Core.Path.{◌≡◌, refl}
 use mathlib.Core.List.{List}
 use Prim.Native.Nat.{ℕ}

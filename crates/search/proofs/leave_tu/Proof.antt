@@ -1,4 +1,4 @@
--- `leave_tu`: the clauses of `uLeft`.
+-- `leave_tu`: the clauses of `u_left`.
 use mathlib.Core.Path.{◌≡◌, refl}
 use mathlib.Core.List.{List}
 use Prim.Native.Nat.{ℕ}
