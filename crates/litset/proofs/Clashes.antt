@@ -9,8 +9,7 @@ use Rattle.truth.proofs.Truth.{clash, decided, and_l, and_r, and_intro}
 use Rattle.wfsx.specs.Sets.{Set, ◌∈◌}
 use Rattle.wfsx.specs.Model.{Both}
 use Rattle.litset.specs.Words.{capacity, LowestBoth, ClashOf, clash_from, clash_in}
-use Rattle.litset.specs.declared.Clash.{Clash}
-use Rattle.litset.specs.declared.Clash.TheVariants.{None, Name}
+use Rattle.std.specs.Prelude.{Option, None, Some}
 
 -- a set has one clash
 pub lowest_one : (S : Set) (k n : ℕ) → LowestBoth S k → LowestBoth S n → k ≡ n
@@ -21,11 +20,11 @@ lowest_one S k n a b = go (dec_lt k n) (dec_lt n k)
     go (no h) (yes l) = absurd (a.1 n l b.0)
     go (no h) (no l) = omega arith
 
-pub clash_settles : (S : Set) (c d : Clash) → ClashOf S c → ClashOf S d → c ≡ d
+pub clash_settles : (S : Set) (c d : Option ℕ) → ClashOf S c → ClashOf S d → c ≡ d
 clash_settles S None None a b = refl
-clash_settles S None (Name n) a b = absurd (a n b.0)
-clash_settles S (Name k) None a b = absurd (b k a.0)
-clash_settles S (Name k) (Name n) a b = ap Name (lowest_one S k n a b)
+clash_settles S None (Some n) a b = absurd (a n b.0)
+clash_settles S (Some k) None a b = absurd (b k a.0)
+clash_settles S (Some k) (Some n) a b = ap Some (lowest_one S k n a b)
 
 -- Where no name below k has both literals in S and none past the n names from k on has, the search finds the clash of S.
 clash_found : (S : Set) (k n : ℕ) → ((i : ℕ) → i < k → Both S i → ⊥) → ((i : ℕ) → Both S i → i < k + n) → ClashOf S (clash_from S k n)
@@ -53,5 +52,5 @@ module _ (S : Set) (inside : (A : ℕ) → A ∈ S → A < capacity) where
   clash_of =
       clash_found S 0 (capacity / 2) (λ i h. absurd (omega arith)) (λ i b. let h = inside (2 * i + 1) b.1 in omega arith)
 
-  pub clash_is : (c : Clash) → ClashOf S c → c ≡ clash_in S
+  pub clash_is : (c : Option ℕ) → ClashOf S c → c ≡ clash_in S
   clash_is c h = clash_settles S c (clash_in S) h clash_of

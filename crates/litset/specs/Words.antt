@@ -1,9 +1,7 @@
 -- A list of words of 64 bits, of any length, as a set of literals.
-use Rattle.std.specs.Prelude.{Bool, not, cond, ◌&&◌, List, ℕ, zero, suc, ◌+◌, ◌*◌, ◌/◌, ◌%◌, ◌^◌, ◌<◌, eqb, ltb, leb, get_or}
+use Rattle.std.specs.Prelude.{Option, None, Some, Bool, not, cond, ◌&&◌, List, ℕ, zero, suc, ◌+◌, ◌*◌, ◌/◌, ◌%◌, ◌^◌, ◌<◌, eqb, ltb, leb, get_or}
 use Rattle.wfsx.specs.Sets.{Set, add}
 use Rattle.wfsx.specs.Model.{Both}
-use Rattle.litset.specs.declared.Clash.{Clash}
-use Rattle.litset.specs.declared.Clash.TheVariants.{None, Name}
 
 -- How many words a `LitSet` has: `WORDS` in src/lib.rt is the same number.
 abbrev pub n_words : ℕ
@@ -45,17 +43,17 @@ without l S A = S A && not (eqb A l)
 abbrev pub LowestBoth : Set → ℕ → Type 0
 LowestBoth S n = Both S n × ((k : ℕ) → k < n → Both S k → ⊥)
 
-abbrev pub ClashOf : Set → Clash → Type 0
+abbrev pub ClashOf : Set → Option ℕ → Type 0
 ClashOf S None = (n : ℕ) → Both S n → ⊥
-ClashOf S (Name n) = LowestBoth S n
+ClashOf S (Some n) = LowestBoth S n
 
 -- the lowest-numbered of the n names from k on that has both literals in S
-unfoldable pub clash_from : Set → ℕ → ℕ → Clash
+unfoldable pub clash_from : Set → ℕ → ℕ → Option ℕ
 clash_from S k zero = None
 clash_from S k (suc n) =
     let later = clash_from S (suc k) n in
-    cond (S (2 * k) && S (2 * k + 1)) (Name k) later
+    cond (S (2 * k) && S (2 * k + 1)) (Some k) later
 
 -- the lowest-numbered name with both literals in S, among all whose literals a set has room for
-abbrev pub clash_in : Set → Clash
+abbrev pub clash_in : Set → Option ℕ
 clash_in S = clash_from S 0 (capacity / 2)

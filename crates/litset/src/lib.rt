@@ -26,11 +26,121 @@ pub fn complement(l: usize) -> usize
     if l % 2 == 0 { l + 1 } else { l - 1 }
 }
 
-pub fn empty() -> LitSet
-    ensures { set_of result.words ≡ ∅ }
-{
-    LitSet {
-        words: [0u64; WORDS],
+impl LitSet {
+    pub fn empty() -> LitSet
+        ensures { set_of result.words ≡ ∅ }
+    {
+        LitSet {
+            words: [0u64; WORDS],
+        }
+    }
+
+    // The literals from k on for which a set has room.
+    pub fn from(k: usize) -> LitSet
+        ensures { set_of result.words ≡ from_on k }
+    {
+        let mut words = [0u64; WORDS];
+        for (i, word) in words.iter_mut().enumerate() {
+            *word = word_from(k, i);
+        }
+        LitSet { words }
+    }
+
+    pub fn contains(self, l: usize) -> bool
+        ensures { result ≡ set_of self.words l }
+    {
+        let i = l / 64;
+        if i < WORDS {
+            (self.words[i] >> (l % 64)) % 2 == 1
+        } else {
+            false
+        }
+    }
+
+    pub fn insert(self, l: usize) -> LitSet
+        ensures { set_of result.words ≡ with l (set_of self.words) }
+    {
+        let i = l / 64;
+        let mut t = self;
+        if i < WORDS {
+            t.words[i] |= 1u64 << (l % 64);
+        }
+        t
+    }
+
+    pub fn remove(self, l: usize) -> LitSet
+        ensures { set_of result.words ≡ without l (set_of self.words) }
+    {
+        let i = l / 64;
+        let mut t = self;
+        if i < WORDS {
+            let bit = 1u64 << (l % 64);
+            t.words[i] = (t.words[i] | bit) ^ bit;
+        }
+        t
+    }
+
+    pub fn union(self, other: LitSet) -> LitSet
+        ensures { set_of result.words ≡ set_of self.words ∪ set_of other.words }
+    {
+        let mut t = self;
+        for (i, word) in t.words.iter_mut().enumerate() {
+            *word |= other.words[i];
+        }
+        t
+    }
+
+    // The members that are not in the other set.
+    pub fn difference(self, other: LitSet) -> LitSet
+        ensures { set_of result.words ≡ set_of self.words ∖ set_of other.words }
+    {
+        let mut t = self;
+        for (i, word) in t.words.iter_mut().enumerate() {
+            *word = (*word | other.words[i]) ^ other.words[i];
+        }
+        t
+    }
+
+    // The complements of the members.
+    pub fn complements(self) -> LitSet
+        ensures { set_of result.words ≡ complements (set_of self.words) }
+    {
+        let mut t = self;
+        for word in &mut t.words {
+            *word = exchanged(*word);
+        }
+        t
+    }
+
+    // The lowest-numbered name that has both literals in the set, if any.
+    pub fn lowest_both(self) -> Option<usize>
+        ensures { result ≡ clash_in (set_of self.words) }
+    {
+        for (i, word) in self.words.iter().enumerate() {
+            let pairs = pairs_in(*word);
+            if pairs != 0 {
+                return Some(32 * i + pairs.trailing_zeros() as usize / 2);
+            }
+        }
+        None
+    }
+
+    // Whether the two have the same members.
+    pub fn equal(self, other: LitSet) -> bool
+        ensures { (result ≡ true) ↔ (set_of self.words ≡ set_of other.words) }
+    {
+        self.words == other.words
+    }
+
+    // How many members the set has: the count of ones over its words.
+    pub fn count(self) -> usize
+        ensures { result ≡ length (members capacity (set_of self.words)) }
+    {
+        let mut n = 0;
+        for word in &self.words {
+            n += word.count_ones() as usize;
+        }
+        n
     }
 }
 
@@ -52,82 +162,6 @@ fn word_from(k: usize, i: usize) -> u64
     FULL << (k - first)
 }
 
-// The literals from k on for which a set has room.
-pub fn from(k: usize) -> LitSet
-    ensures { set_of result.words ≡ from_on k }
-{
-    let mut words = [0u64; WORDS];
-    let mut i: usize = 0;
-    while i < WORDS {
-        words[i] = word_from(k, i);
-        i += 1;
-    }
-    LitSet { words }
-}
-
-pub fn contains(s: LitSet, l: usize) -> bool
-    ensures { result ≡ set_of s.words l }
-{
-    let i = l / 64;
-    if i < WORDS {
-        (s.words[i] >> (l % 64)) % 2 == 1
-    } else {
-        false
-    }
-}
-
-pub fn insert(s: LitSet, l: usize) -> LitSet
-    ensures { set_of result.words ≡ with l (set_of s.words) }
-{
-    let i = l / 64;
-    if i < WORDS {
-        let mut t = s;
-        t.words[i] = t.words[i] | (1u64 << (l % 64));
-        t
-    } else {
-        s
-    }
-}
-
-pub fn remove(s: LitSet, l: usize) -> LitSet
-    ensures { set_of result.words ≡ without l (set_of s.words) }
-{
-    let i = l / 64;
-    if i < WORDS {
-        let m = 1u64 << (l % 64);
-        let mut t = s;
-        t.words[i] = (t.words[i] | m) ^ m;
-        t
-    } else {
-        s
-    }
-}
-
-pub fn union(a: LitSet, b: LitSet) -> LitSet
-    ensures { set_of result.words ≡ set_of a.words ∪ set_of b.words }
-{
-    let mut t = a;
-    let mut i: usize = 0;
-    while i < WORDS {
-        t.words[i] = t.words[i] | b.words[i];
-        i += 1;
-    }
-    t
-}
-
-// The members of a that are not in b.
-pub fn difference(a: LitSet, b: LitSet) -> LitSet
-    ensures { set_of result.words ≡ set_of a.words ∖ set_of b.words }
-{
-    let mut t = a;
-    let mut i: usize = 0;
-    while i < WORDS {
-        t.words[i] = (t.words[i] | b.words[i]) ^ b.words[i];
-        i += 1;
-    }
-    t
-}
-
 // The bits of the literals that are names; those of their explicit negations stand one place higher.
 const PLAIN: u64 = 0x5555_5555_5555_5555;
 
@@ -138,70 +172,9 @@ fn exchanged(w: u64) -> u64
     ((w >> 1) & PLAIN) | ((w & PLAIN) << 1)
 }
 
-// The complements of the members.
-pub fn complements(s: LitSet) -> LitSet
-    ensures { set_of result.words ≡ complements (set_of s.words) }
-{
-    let mut t = s;
-    let mut i: usize = 0;
-    while i < WORDS {
-        t.words[i] = exchanged(t.words[i]);
-        i += 1;
-    }
-    t
-}
-
-// The lowest-numbered name that has both literals in a set, if any.
-#[derive(Clone, Copy)]
-pub enum Clash {
-    None,
-    Name(usize),
-}
-
 // The bits of a word's names that have both literals in it.
 fn pairs_in(w: u64) -> u64
     ensures { result ≡ pairs w }
 {
     (w & (w >> 1)) & PLAIN
-}
-
-pub fn lowest_both(s: LitSet) -> Clash
-    ensures { result ≡ clash_in (set_of s.words) }
-{
-    let mut i: usize = 0;
-    while i < WORDS {
-        let pairs = pairs_in(s.words[i]);
-        if pairs != 0 {
-            return Clash::Name(32 * i + u64::trailing_zeros(pairs) as usize / 2);
-        }
-        i += 1;
-    }
-    Clash::None
-}
-
-// Whether the two have the same members.
-pub fn equal(a: LitSet, b: LitSet) -> bool
-    ensures { (result ≡ true) ↔ (set_of a.words ≡ set_of b.words) }
-{
-    let mut i: usize = 0;
-    while i < WORDS {
-        if a.words[i] != b.words[i] {
-            return false;
-        }
-        i += 1;
-    }
-    true
-}
-
-// How many members the set has: the count of ones over its words.
-pub fn count(s: LitSet) -> usize
-    ensures { result ≡ length (members capacity (set_of s.words)) }
-{
-    let mut n: usize = 0;
-    let mut i: usize = 0;
-    while i < WORDS {
-        n += u64::count_ones(s.words[i]) as usize;
-        i += 1;
-    }
-    n
 }

@@ -4,15 +4,7 @@
 ghost use Rattle.std.specs.Prelude.{◌≡◌, set};
 ghost use Rattle.std.proofs.lemmas.List.Edits.{sets};
 
-pub fn put8(t: &mut [u8], i: usize, b: u8)
-    ensures { t.new ≡ set t.old i b }
-{
-    if i < t.len() {
-        t[i] = b;
-    }
-}
-
-pub fn put16(t: &mut [u16], i: usize, v: u16)
+fn put<T: Copy>(t: &mut [T], i: usize, v: T)
     ensures { t.new ≡ set t.old i v }
 {
     if i < t.len() {
@@ -20,23 +12,30 @@ pub fn put16(t: &mut [u16], i: usize, v: u16)
     }
 }
 
+pub fn put8(t: &mut [u8], i: usize, b: u8)
+    ensures { t.new ≡ set t.old i b }
+{
+    put(t, i, b);
+}
+
+pub fn put16(t: &mut [u16], i: usize, v: u16)
+    ensures { t.new ≡ set t.old i v }
+{
+    put(t, i, v);
+}
+
 pub fn put64(t: &mut [u64], i: usize, w: u64)
     ensures { t.new ≡ set t.old i w }
 {
-    if i < t.len() {
-        t[i] = w;
-    }
+    put(t, i, w);
 }
 
-// The bytes of s from `at` on. The place is counted up and not added, so that it stays a number of the machine wherever `at` is.
+// The bytes of s from `at` on, as far as there is room.
 pub fn put_all(t: &mut [u8], at: usize, s: &[u8])
     ensures { t.new ≡ sets t.old at s.now }
 {
-    let mut i = 0;
-    let mut p = at;
-    while i < s.len() && p < t.len() {
-        t[p] = s[i];
-        i += 1;
-        p += 1;
+    let room = t.len().saturating_sub(at);
+    for i in 0..s.len().min(room) {
+        t[at + i] = s[i];
     }
 }
