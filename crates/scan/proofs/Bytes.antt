@@ -1,14 +1,13 @@
 -- Laws of tests over bytes, and of two lists with the same bytes.
-use mathlib.Core.Path.{◌≡◌, refl, sym}
-use mathlib.Core.Bool.{Bool, true, false, ◌&&◌, true≢false}
+use mathlib.Core.Path.{◌≡◌, refl, sym, ap}
+use mathlib.Core.Bool.{Bool, true, ◌&&◌, true≢false}
 use mathlib.Core.List.{List, [], ◌∷◌}
-use Prim.Native.Nat.{ℕ, ◌+◌, ◌≤◌, ◌<◌}
-use lib.ListN.{length, get_or, drop, drop_of_length-le}
+use Prim.Native.Nat.{ℕ}
 use lib.Dec.{eqb}
 use borrow.Author.Tests.{eq-eqb, eqb-true}
+use Rattle.std.specs.List.{list_all}
 use Rattle.truth.proofs.Truth.{and_l, and_r}
 use Rattle.scan.specs.Text.{all_bytes, same_bytes}
-use Rattle.scan.proofs.Places.{left_at}
 
 -- ---- every byte
 
@@ -21,19 +20,11 @@ module _ (f : ℕ → Bool) where
   unfolding all_bytes
   bytes_first x xs = refl
 
--- for a loop that has come to place i
-module _ (f : ℕ → Bool) (s : List ℕ) (i : ℕ) where
-  bytes_step : i < length s → all_bytes f (drop i s) ≡ (f (get_or s i 0) && all_bytes f (drop (i + 1) s))
-  bytes_step h = rw (left_at s i h) (bytes_first f (get_or s i 0) (drop (i + 1) s))
-
-  pub bytes_stop : i < length s → f (get_or s i 0) ≡ false → all_bytes f (drop i s) ≡ false
-  bytes_stop h e = rw (bytes_step h, e)
-
-  pub bytes_go : i < length s → f (get_or s i 0) ≡ true → all_bytes f (drop i s) ≡ all_bytes f (drop (i + 1) s)
-  bytes_go h e = rw (bytes_step h, e)
-
-  pub bytes_end : length s ≤ i → all_bytes f (drop i s) ≡ true
-  bytes_end h = rw (drop_of_length-le s h) (bytes_none f)
+  -- the test of every byte is the library's of every element
+  pub bytes_are : (xs : List ℕ) → list_all f xs ≡ all_bytes f xs
+  unfolding all_bytes
+  bytes_are [] = refl
+  bytes_are (x ∷ xs) = ap (λ (b : Bool). f x && b) (bytes_are xs)
 
 -- ---- the same bytes
 

@@ -11,7 +11,8 @@ use lib.Dec.{eqb}
 use borrow.Author.Tests.{eq-eqb, ne_eqb}
 use Rattle.scan.specs.Text.{is_name, lead, tildes, minuses, name_of, form_of}
 use Rattle.scan.specs.declared.Alphabet.{Alphabet}
-use Rattle.scan.specs.declared.Form.TheVariants.{Malformed, Literal}
+use Rattle.std.specs.Prelude.{Option, None, Some}
+use Rattle.scan.specs.declared.Marks.{Marks}
 use Rattle.scan.proofs.Places.{left_at}
 
 -- ---- `~` and `-`
@@ -34,45 +35,49 @@ lead_most b (x ∷ xs) = go (eqb x b)
     go true = omega arith
     go false = omega arith
 
--- ---- the form by the name: `~` up to a, `-` up to b, the name from b on
+-- ---- the form by the name: `~` and `-` as the marks say, the name behind them
 
-module _ (f : List ℕ) (a b : ℕ) (ea : a ≡ tildes f) (eb : b ≡ minuses f) where
-  pub name_from : name_of f ≡ take (length f - (a + b)) (drop (a + b) f)
+module _ (f : List ℕ) (m : Marks) (ea : m.tildes ≡ tildes f) (eb : m.minuses ≡ minuses f) where
+  pub name_from : name_of f ≡ take (length f - (m.tildes + m.minuses)) (drop (m.tildes + m.minuses) f)
   name_from =
       drop-drop (minuses f) (tildes f) f ∙ ap₂ (λ (x y : ℕ). drop (x + y) f) (sym ea) (sym eb)
-      ∙ sym (take_all (length f - (a + b)) (drop (a + b) f) (omega (arith, length-drop (a + b) f)))
+      ∙ sym (take_all (length f - (m.tildes + m.minuses)) (drop (m.tildes + m.minuses) f) (omega (arith, length-drop (m.tildes + m.minuses) f)))
 
   module _ (α : Alphabet) where
-    pub form_malformed : is_name α (take (length f - (a + b)) (drop (a + b) f)) ≡ false → form_of α f ≡ Malformed
+    pub form_malformed : is_name α (take (length f - (m.tildes + m.minuses)) (drop (m.tildes + m.minuses) f)) ≡ false → form_of α f ≡ None
     unfolding form_of
     form_malformed h = rw (ap (is_name α) name_from ∙ h)
 
-    pub form_literal : is_name α (take (length f - (a + b)) (drop (a + b) f)) ≡ true → form_of α f ≡ Literal a b
+    pub form_literal : is_name α (take (length f - (m.tildes + m.minuses)) (drop (m.tildes + m.minuses) f)) ≡ true → form_of α f ≡ Some m
     unfolding form_of
-    form_literal h = rw (ap (is_name α) name_from ∙ h) (ap₂ Literal (sym ea) (sym eb))
+    form_literal h = rw (ap (is_name α) name_from ∙ h) (ap₂ {C = Option Marks} (λ (x y : ℕ). Some (record { tildes = x; minuses = y })) (sym ea) (sym eb))
 
 -- ---- the name and the `~` by the form
 
 module _ (α : Alphabet) (f : List ℕ) where
-  pub malformed_form : form_of α f ≡ Malformed → is_name α (name_of f) ≡ false
+  -- the marks that the field has
+  abbrev own : Marks
+  own = record { tildes = tildes f; minuses = minuses f }
+
+  pub malformed_form : form_of α f ≡ None → is_name α (name_of f) ≡ false
   unfolding form_of
   malformed_form = go (is_name α (name_of f))
     where
-      go : (t : Bool) → cond t (Literal (tildes f) (minuses f)) Malformed ≡ Malformed → t ≡ false
+      go : (t : Bool) → cond t (Some own) None ≡ None → t ≡ false
       go true e = cc
       go false e = refl
 
-  module _ (a b : ℕ) (e : form_of α f ≡ Literal a b) where
-    parts : (is_name α (name_of f) ≡ true) × (tildes f ≡ a)
+  module _ (m : Marks) (e : form_of α f ≡ Some m) where
+    parts : (is_name α (name_of f) ≡ true) × (tildes f ≡ m.tildes)
     unfolding form_of
     parts = go (is_name α (name_of f)) e
       where
-        go : (t : Bool) → cond t (Literal (tildes f) (minuses f)) Malformed ≡ Literal a b → (t ≡ true) × (tildes f ≡ a)
+        go : (t : Bool) → cond t (Some own) None ≡ Some m → (t ≡ true) × (tildes f ≡ m.tildes)
         go true q = (refl, cc)
         go false q = (cc, cc)
 
     pub literal_form : is_name α (name_of f) ≡ true
     literal_form = parts.0
 
-    pub form_tildes : tildes f ≡ a
+    pub form_tildes : tildes f ≡ m.tildes
     form_tildes = parts.1

@@ -1,14 +1,13 @@
 -- The text of a marking file: lines and fields, names, the first word of a line, and the form of a literal (document 01, "The marking file";
 -- document 02, A.2, for capitals in names).
-use Rattle.std.specs.Prelude.{◌≡◌, Bool, true, false, cond, ◌&&◌, ◌||◌, List, [], ◌∷◌, map, ℕ, suc, ◌+◌, eqb, leb, length, drop}
+use Rattle.std.specs.Prelude.{◌≡◌, Option, None, Some, Bool, true, false, cond, ◌&&◌, ◌||◌, List, [], ◌∷◌, map, ℕ, suc, ◌+◌, eqb, leb, length, drop}
 use Rattle.scan.specs.declared.Class.{Class}
 use Rattle.scan.specs.declared.Class.TheVariants.{Letter, Capital, Digit, Underscore, Other}
 use Rattle.scan.specs.declared.Alphabet.{Alphabet}
 use Rattle.scan.specs.declared.Alphabet.TheVariants.{SmallOnly, EitherCase}
 use Rattle.scan.specs.declared.Word.{Word}
 use Rattle.scan.specs.declared.Word.TheVariants.{Name, Rule, End, Unknown}
-use Rattle.scan.specs.declared.Form.{Form}
-use Rattle.scan.specs.declared.Form.TheVariants.{Malformed, Literal}
+use Rattle.scan.specs.declared.Marks.{Marks}
 
 -- ---- bytes
 
@@ -157,6 +156,6 @@ minuses f = lead 45 (drop (tildes f) f)
 abbrev pub name_of : List ℕ → List ℕ
 name_of f = drop (minuses f) (drop (tildes f) f)
 
--- a field reads as a literal or is malformed
-unfoldable pub form_of : Alphabet → List ℕ → Form
-form_of α f = cond (is_name α (name_of f)) (Literal (tildes f) (minuses f)) Malformed
+-- the marks of a field that reads as a literal; none where it is malformed
+unfoldable pub form_of : Alphabet → List ℕ → Option Marks
+form_of α f = cond (is_name α (name_of f)) (Some (record { tildes = tildes f; minuses = minuses f })) None

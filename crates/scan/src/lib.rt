@@ -3,7 +3,7 @@
 
 ghost use Rattle.std.specs.Prelude.{◌≡◌, ◌+◌, ◌≤◌, length, drop};
 ghost use Rattle.scan.specs.Text.{is_text, class_of, is_letter, counts_as, in_name, all_bytes, split, len_to, max_length, is_name, same_bytes, word_of, lead, tildes, minuses, form_of};
-ghost use Rattle.scan.specs.Keys.{in_word, Bytes, word_from, key_of, same_key};
+ghost use Rattle.scan.specs.Keys.{in_word, Bytes, word_from, key_of};
 ghost use Rattle.scan.specs.declared.Alphabet.TheVariants.{EitherCase};
 
 // The most bytes of a name; `max_length` in specs/Text.antt is the same number.
@@ -34,38 +34,19 @@ fn class_of(b: u8) -> Class
 fn is_letter(c: Class) -> bool
     ensures { result ≡ is_letter EitherCase c }
 {
-    match c {
-        Class::Letter => true,
-        Class::Capital => true,
-        Class::Digit => false,
-        Class::Underscore => false,
-        Class::Other => false,
-    }
+    matches!(c, Class::Letter | Class::Capital)
 }
 
 fn in_name(c: Class) -> bool
     ensures { result ≡ in_name EitherCase c }
 {
-    match c {
-        Class::Letter => true,
-        Class::Capital => true,
-        Class::Digit => true,
-        Class::Underscore => true,
-        Class::Other => false,
-    }
+    is_letter(c) || matches!(c, Class::Digit | Class::Underscore)
 }
 
 fn all_in_name(s: &[u8]) -> bool
     ensures { result ≡ all_bytes (λ b. in_name EitherCase (class_of b)) s.now }
 {
-    let mut i = 0;
-    while i < s.len() {
-        if !in_name(class_of(s[i])) {
-            return false;
-        }
-        i += 1;
-    }
-    true
+    s.iter().all(|b| in_name(class_of(*b)))
 }
 
 #[tactic(auto, using(crate::proofs::Names::name_none, crate::proofs::Names::name_long, crate::proofs::Names::name_first, crate::proofs::Names::name_rest))]
@@ -87,26 +68,15 @@ pub fn is_name(s: &[u8]) -> bool
 fn is_text(b: u8) -> bool
     ensures { result ≡ is_text b }
 {
-    match b {
-        b'\n' => true,
-        32..=126 => true,
-        _ => false,
-    }
+    matches!(b, b'\n' | 32..=126)
 }
 
 // Whether every byte may stand in a file.
-#[tactic(auto, using(crate::proofs::Bytes::bytes_stop, crate::proofs::Bytes::bytes_go, crate::proofs::Bytes::bytes_end))]
+
 pub fn all_text(s: &[u8]) -> bool
     ensures { result ≡ all_bytes is_text s.now }
 {
-    let mut i = 0;
-    while i < s.len() {
-        if !is_text(s[i]) {
-            return false;
-        }
-        i += 1;
-    }
-    true
+    s.iter().all(|b| is_text(*b))
 }
 
 // The place of the first `stop` at or after `from`, or the end; a place past the end stays.
@@ -114,27 +84,23 @@ pub fn end_of(s: &[u8], from: usize, stop: u8) -> usize
     ensures { (result ≡ from + len_to stop (drop from s.now)) × (from ≤ result)
         × (from ≤ length s.now → result ≤ length s.now) }
 {
-    let mut i = from;
-    while i < s.len() {
+    for i in from..s.len() {
         if s[i] == stop {
             return i;
         }
-        i += 1;
     }
-    i
+    from.max(s.len())
 }
 
 // How many pieces the stops part s into.
 pub fn pieces(s: &[u8], stop: u8) -> usize
     ensures { result ≡ length (split stop s.now) }
 {
-    let mut n: usize = 0;
-    let mut i = 0;
-    while i < s.len() {
-        if s[i] == stop {
+    let mut n = 0;
+    for b in s {
+        if *b == stop {
             n += 1;
         }
-        i += 1;
     }
     n + 1
 }
@@ -151,10 +117,7 @@ pub enum Alphabet {
 fn small(b: u8) -> u8
     ensures { result ≡ counts_as EitherCase b }
 {
-    match b {
-        b'A'..=b'Z' => b + 32,
-        _ => b,
-    }
+    b.to_ascii_lowercase()
 }
 
 fn counts_as(b: u8, alphabet: Alphabet) -> u8
@@ -169,32 +132,21 @@ fn counts_as(b: u8, alphabet: Alphabet) -> u8
 // The bytes of one word of a key.
 const IN_WORD: usize = 8;
 
-fn wide(b: u8) -> u64
-    ensures { result ≡ b }
-{
-    b as u64
-}
-
 // The bytes of a word from `from` on, as they count, as a number in base 256.
 fn word_from(s: &[u8], from: usize, alphabet: Alphabet) -> u64
     requires { from ≤ in_word }
     ensures { result ≡ word_from alphabet from s.now }
 {
-    let end = from + IN_WORD;
-    let mut w: u64 = 0;
-    let mut k = from;
-    while k < end {
-        if s.len() <= k {
-            return w;
-        }
-        w = 256 * w + wide(counts_as(s[k], alphabet));
-        k += 1;
+    let end = s.len().min(from + IN_WORD);
+    let mut w = 0;
+    for k in from..end {
+        w = 256 * w + u64::from(counts_as(s[k], alphabet));
     }
     w
 }
 
 // How many bytes there are, and the first 16 of them as they count: two names are the same exactly where their keys are.
-#[derive(Clone, Copy)]
+#[derive(Clone, Copy, PartialEq, Eq)]
 pub struct Key {
     pub length: usize,
     pub first: u64,
@@ -212,26 +164,13 @@ pub fn key_of(s: &[u8], alphabet: Alphabet) -> Key
     }
 }
 
-pub fn same_key(a: Key, b: Key) -> bool
-    ensures { result ≡ same_key a b }
-{
-    if a.length != b.length {
-        return false;
-    }
-    if a.first != b.first {
-        return false;
-    }
-    a.second == b.second
-}
-
 // Whether the bytes of s, as they are spelled, are those of a word.
 fn spells(s: &[u8], word: &[u8]) -> bool
     ensures { length word.now ≤ max_length → result ≡ same_bytes s.now word.now }
 {
-    same_key(
-        key_of(s, Alphabet::SmallOnly),
-        key_of(word, Alphabet::SmallOnly),
-    )
+    let key = key_of(s, Alphabet::SmallOnly);
+    let other = key_of(word, Alphabet::SmallOnly);
+    key == other
 }
 
 // The first field of a line.
@@ -262,12 +201,7 @@ pub fn word_of(f: &[u8]) -> Word
 fn skip(s: &[u8], at: usize, b: u8) -> usize
     ensures { (result ≡ at + lead b (drop at s.now)) × (at ≤ length s.now → result ≤ length s.now) }
 {
-    if at < s.len() {
-        if s[at] == b {
-            return at + 1;
-        }
-    }
-    at
+    if s.get(at) == Some(&b) { at + 1 } else { at }
 }
 
 // How many `~` and how many `-` stand before a literal's name.
@@ -289,24 +223,14 @@ pub fn marks_of(f: &[u8]) -> Marks
     }
 }
 
-// A field of a rule reads as a literal, or is malformed.
-#[derive(Clone, Copy)]
-pub enum Form {
-    Malformed,
-    Literal { tildes: usize, minuses: usize },
-}
-
-pub fn form_of(f: &[u8]) -> Form
+// The marks of a field that reads as a literal; none where it is malformed.
+pub fn form_of(f: &[u8]) -> Option<Marks>
     ensures { result ≡ form_of EitherCase f.now }
 {
     let m = marks_of(f);
-    let from = m.tildes + m.minuses;
-    if is_name(&f[from..]) {
-        Form::Literal {
-            tildes: m.tildes,
-            minuses: m.minuses,
-        }
+    if is_name(&f[m.tildes + m.minuses..]) {
+        Some(m)
     } else {
-        Form::Malformed
+        None
     }
 }
