@@ -83,22 +83,18 @@ impl LitSet {
     pub fn union(self, other: LitSet) -> LitSet
         ensures { set_of result.words ≡ set_of self.words ∪ set_of other.words }
     {
-        let mut t = self;
-        for (i, word) in t.words.iter_mut().enumerate() {
-            *word |= other.words[i];
+        LitSet {
+            words: union_of(self.words, other.words),
         }
-        t
     }
 
     // The members that are not in the other set.
     pub fn difference(self, other: LitSet) -> LitSet
         ensures { set_of result.words ≡ set_of self.words ∖ set_of other.words }
     {
-        let mut t = self;
-        for (i, word) in t.words.iter_mut().enumerate() {
-            *word = (*word | other.words[i]) ^ other.words[i];
+        LitSet {
+            words: difference_of(self.words, other.words),
         }
-        t
     }
 
     // The complements of the members.
@@ -143,6 +139,32 @@ impl LitSet {
         n
     }
 }
+
+// ---- words of any count, which sets of names have too
+
+// The words of the members of either.
+pub fn union_of<const N: usize>(a: [u64; N], b: [u64; N]) -> [u64; N]
+    ensures { set_of result ≡ set_of a.entry ∪ set_of b.entry }
+{
+    let mut words = a;
+    for (i, word) in words.iter_mut().enumerate() {
+        *word |= b[i];
+    }
+    words
+}
+
+// The words of the members of a that are not in b.
+pub fn difference_of<const N: usize>(a: [u64; N], b: [u64; N]) -> [u64; N]
+    ensures { set_of result ≡ set_of a.entry ∖ set_of b.entry }
+{
+    let mut words = a;
+    for (i, word) in words.iter_mut().enumerate() {
+        *word = (*word | b[i]) ^ b[i];
+    }
+    words
+}
+
+// ---- single words
 
 // A word of which every literal is a member.
 const FULL: u64 = 0xFFFF_FFFF_FFFF_FFFF;

@@ -17,7 +17,7 @@ use Rattle.litset.specs.Words.{capacity, bit, set_of, from_on, add_below}
 use Rattle.litset.proofs.Bit.{bit_zero}
 use Rattle.litset.proofs.Words.{none_past, change, below_insert, below_no_room}
 use Rattle.litset.proofs.Names.{some_bit, at_trailing, below_trailing}
-use Rattle.nameset.specs.declared.Lowest.TheVariants.{Name}
+use Rattle.std.specs.Prelude.{Some}
 use Rattle.nameset.specs.Names.{name_words, n_names, below, word_with, LowestOf}
 
 -- ---- a name added
@@ -113,7 +113,7 @@ module _ (S : Set) (word : ℕ → ℕ) (is : (l : ℕ) → S l ≡ bit (word (l
         go (yes l) = none k l
         go (no l) = let place : k ≡ 64 * i + k % 64 = omega arith in at_bit i (k % 64) k place (omega arith) ∙ ap (λ (w : ℕ). bit w (k % 64)) z ∙ bit_zero (k % 64)
 
-    pub lowest_here : word i < 2 ^ 64 → (word i ≡ 0 → ⊥) → LowestOf S (Name (64 * i + count_trailing_zeros 64 (word i)))
+    pub lowest_here : word i < 2 ^ 64 → (word i ≡ 0 → ⊥) → LowestOf S (Some (64 * i + count_trailing_zeros 64 (word i)))
     lowest_here fits some = (at_bit i t (64 * i + t) refl low ∙ at_trailing 64 (word i) low, before)
       where
         t : ℕ

@@ -1,10 +1,8 @@
 -- A list of words of 64 bits as a set of names; that of its members is the set of literals' (`set_of`).
-use Rattle.std.specs.Prelude.{cond, ◌&&◌, ℕ, ◌*◌, ◌/◌, ◌%◌, ◌^◌, ◌<◌, eqb, ltb}
+use Rattle.std.specs.Prelude.{Option, None, Some, cond, ◌&&◌, ℕ, ◌*◌, ◌/◌, ◌%◌, ◌^◌, ◌<◌, eqb, ltb}
 use Rattle.std.specs.Int.Bits.{bit_or}
 use Rattle.wfsx.specs.Sets.{Set, ◌∈◌, ◌∉◌}
 use Rattle.litset.specs.Words.{n_words}
-use Rattle.nameset.specs.declared.Lowest.{Lowest}
-use Rattle.nameset.specs.declared.Lowest.TheVariants.{None, Name}
 
 -- How many words a `NameSet` has: a name has two literals.
 abbrev pub name_words : ℕ
@@ -23,6 +21,6 @@ abbrev pub word_with : (w i k : ℕ) → ℕ
 word_with w i k = cond (eqb i (k / 64)) (bit_or w (2 ^ (k % 64))) w
 
 -- the lowest name of S, if S has any
-abbrev pub LowestOf : Set → Lowest → Type 0
+abbrev pub LowestOf : Set → Option ℕ → Type 0
 LowestOf S None = (k : ℕ) → k ∉ S
-LowestOf S (Name k) = (k ∈ S) × ((j : ℕ) → j < k → j ∉ S)
+LowestOf S (Some k) = (k ∈ S) × ((j : ℕ) → j < k → j ∉ S)

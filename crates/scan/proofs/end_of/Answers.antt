@@ -19,5 +19,5 @@ returns c =
     (go (dec_le c.args.from (length c.args.s.now)), omega arith, λ h. omega arith)
   where
     go : Dec (c.args.from ≤ length c.args.s.now) → c.max.result ≡ c.args.from + len_to c.args.stop (drop c.args.from c.args.s.now)
-    go (yes h) = omega (arith, len_to_end c.args.stop c.args.s.now c.loop-i.i c.loop-i-test.false, c.loop-i.auto.i-end h)
+    go (yes h) = omega (arith, len_to_end c.args.stop c.args.s.now c.loop-i.i c.loop-i-test.false)
     go (no n) = omega (arith, len_to_end c.args.stop c.args.s.now c.args.from (omega arith))
