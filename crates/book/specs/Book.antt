@@ -1,6 +1,6 @@
 -- The meaning of a `Book`, whatever its bits: names and rules, and with the facts put in a program (document 01, "The marking file", "From
 -- rules to a model").
-use Rattle.std.specs.Prelude.{cond, List, [], ◌∷◌, ◌++◌, map, ℕ, zero, suc, ◌+◌, ◌-◌, ◌*◌, ◌/◌, ◌%◌, min, eqb, length, get_or, take, drop, replicate}
+use Rattle.std.specs.Prelude.{Option, None, Some, cond, List, [], ◌∷◌, ◌++◌, map, ℕ, zero, suc, ◌+◌, ◌-◌, ◌*◌, ◌/◌, ◌%◌, min, eqb, length, get_or, take, drop, replicate}
 use Rattle.wfsx.specs.Sets.{Set, members}
 use Rattle.wfsx.specs.Program.{Entry, positive, default, Rule, Program, with_facts}
 use Rattle.litset.specs.Words.{capacity}
@@ -10,8 +10,6 @@ use Rattle.book.specs.Limits.{max_names, max_rules, max_entries}
 use Rattle.book.specs.declared.Book.{Book}
 use Rattle.book.specs.declared.Entry as declared
 use Rattle.book.specs.declared.Entry.TheVariants.{Positive, Default}
-use Rattle.book.specs.declared.Found.{Found}
-use Rattle.book.specs.declared.Found.TheVariants.{Nothing, At}
 
 -- the n values f k, f (k + 1), ..
 unfoldable pub rows : {X : Type 0} → (ℕ → X) → ℕ → ℕ → List X
@@ -36,11 +34,11 @@ abbrev pub names_of : Book → List (List ℕ)
 names_of b = names_in b.text b.lengths (clamp max_names b.names)
 
 -- the number of the first of the names, counted from k, that is the same as n
-unfoldable pub find_from : Alphabet → ℕ → List ℕ → List (List ℕ) → Found
-find_from α k n [] = Nothing
-find_from α k n (m ∷ ms) = cond (same_name α m n) (At k) (find_from α (suc k) n ms)
+unfoldable pub find_from : Alphabet → ℕ → List ℕ → List (List ℕ) → Option ℕ
+find_from α k n [] = None
+find_from α k n (m ∷ ms) = cond (same_name α m n) (Some k) (find_from α (suc k) n ms)
 
-abbrev pub find : Alphabet → List (List ℕ) → List ℕ → Found
+abbrev pub find : Alphabet → List (List ℕ) → List ℕ → Option ℕ
 find α names n = find_from α 0 n names
 
 -- ---- rules
