@@ -12,17 +12,16 @@ use Rattle.wfsx.specs.Rounds.{rounds}
 use Rattle.wfsx.proofs.Contradiction.{heads_in, contradiction}
 use Rattle.wfsx.proofs.Operators.{M-head, N-head, verdict_is_lem}
 use Rattle.litset.specs.Words.{capacity, room, set_of, LowestBoth, ClashOf, clash_in}
-use Rattle.litset.specs.declared.Clash.{Clash}
-use Rattle.litset.specs.declared.Clash.TheVariants.{None, Name}
+use Rattle.std.specs.Prelude.{Option, Some, None}
 use Rattle.litset.proofs.Clashes.{lowest_one, clash_of}
 use Rattle.litset.proofs.Made.{words_for}
 use Rattle.fixpoint.specs.declared.Model.{Model}
 use Rattle.fixpoint.specs.Result.{ModelOf, verdict_in}
 
-none_name : (n : ℕ) → ◌≡◌ {A = Clash} None (Name n) → ⊥
+none_name : (n : ℕ) → ◌≡◌ {A = Option ℕ} None (Some n) → ⊥
 none_name n e = let z : ◌≡◌ {A = ℕ} 0 1 = cc in omega arith
 
-same_name : (k n : ℕ) → ◌≡◌ {A = Clash} (Name k) (Name n) → k ≡ n
+same_name : (k n : ℕ) → ◌≡◌ {A = Option ℕ} (Some k) (Some n) → k ≡ n
 same_name k n e = cc
 
 -- a program whose heads a set has room for
@@ -45,18 +44,18 @@ module _ (P : Program) (small : Heads⊆ P room) where
     pub no_clash : (clash_in (M P) ≡ None) ↔ (Contradictory P base → ⊥)
     no_clash = go (clash_in (M P)) (clash_of (M P) M-small)
       where
-        go : (c : Clash) → ClashOf (M P) c → (c ≡ None) ↔ (Contradictory P base → ⊥)
+        go : (c : Option ℕ) → ClashOf (M P) c → (c ≡ None) ↔ (Contradictory P base → ⊥)
         go None a = (λ e no. let w = (contradiction P base over).0 no in a w.0 w.1, λ q. refl)
-        go (Name k) a = (λ e. absurd (none_name k (sym e)), λ q. absurd (q ((contradiction P base over).1 (k, a.0))))
+        go (Some k) a = (λ e. absurd (none_name k (sym e)), λ q. absurd (q ((contradiction P base over).1 (k, a.0))))
 
     -- it has one in the name n exactly where the program is contradictory and n is the lowest-numbered name with both literals in M
-    pub clash_name : (n : ℕ) → (clash_in (M P) ≡ Name n) ↔ (Contradictory P base × LowestBoth (M P) n)
+    pub clash_name : (n : ℕ) → (clash_in (M P) ≡ Some n) ↔ (Contradictory P base × LowestBoth (M P) n)
     clash_name n = go (clash_in (M P)) (clash_of (M P) M-small)
       where
-        go : (c : Clash) → ClashOf (M P) c → (c ≡ Name n) ↔ (Contradictory P base × LowestBoth (M P) n)
+        go : (c : Option ℕ) → ClashOf (M P) c → (c ≡ Some n) ↔ (Contradictory P base × LowestBoth (M P) n)
         go None a = (λ e. absurd (none_name n e), λ w. absurd (a n w.1.0))
-        go (Name k) a =
-            (λ e. ((contradiction P base over).1 (k, a.0), rw (same_name k n e) at a), λ w. ap Name (lowest_one (M P) k n a w.1))
+        go (Some k) a =
+            (λ e. ((contradiction P base over).1 (k, a.0), rw (same_name k n e) at a), λ w. ap Some (lowest_one (M P) k n a w.1))
 
 -- the verdict that M and N give is that of the semantics
 pub verdict_same : (P : Program) (T U : Set) → T ≡ M P → U ≡ N P → (A : ℕ) → verdict_in T U A ≡ verdict P A

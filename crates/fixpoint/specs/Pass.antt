@@ -5,7 +5,13 @@ use Rattle.wfsx.specs.Program.{Rule, Program}
 use Rattle.wfsx.specs.Model.{holds, every, Γs}
 use Rattle.wfsx.specs.Groups.{round_of}
 use Rattle.litset.specs.Words.{set_of}
+use Rattle.book.specs.Book.{rules_numbered}
 use Rattle.fixpoint.specs.declared.Model.{Model}
+use Rattle.fixpoint.specs.declared.Numbered.{Numbered}
+
+-- the rules that a `Numbered` of the code has
+abbrev pub rules_by : Numbered → List Rule
+rules_by n = rules_numbered n.heads.now n.starts.now n.entries.now n.numbers.now
 
 -- ---- a pass, where the heads in B are shut: their rules are passed over
 

@@ -18,7 +18,7 @@ pub fn model_by_groups(book: Book, facts: LitSet) -> Values
     ensures { WholeOf (program_of book (set_of facts.words)) result }
 {
     let index = index::index_of(&book.heads, book.rules);
-    let names = book::name_count(book);
+    let names = book.name_count();
     let used = names_used(&index.starts, names, facts);
     let order = reach::order_below(book, used);
     let places = order.names;
@@ -46,7 +46,7 @@ fn is_used(first: &[u16], k: usize, facts: LitSet) -> bool
 {
     let from = index::rules_start(first, 2 * k);
     let end = index::rules_start(first, 2 * k + 2);
-    (from != end) | (litset::contains(facts, 2 * k) | litset::contains(facts, 2 * k + 1))
+    (from != end) | (facts.contains(2 * k) | facts.contains(2 * k + 1))
 }
 
 // The book's count of names, or more where a name past them has a rule or a fact: the names below it are all that matter.
@@ -108,14 +108,14 @@ fn gather<'a>(first: &'a [u16], rules: &'a [u16], names: &[u16], numbers: &mut [
 fn facts_for(names: &[u16], facts: LitSet) -> LitSet
     ensures { set_of result.words ≡ facts_for names.now (set_of facts.words) }
 {
-    let mut literals = litset::empty();
+    let mut literals = LitSet::empty();
     let mut i: usize = 0;
     while i < names.len() {
         let a = first_literal(names[i]);
-        literals = litset::insert(litset::insert(literals, a), a + 1);
+        literals = literals.insert(a).insert(a + 1);
         i += 1;
     }
-    litset::difference(facts, litset::difference(facts, literals))
+    facts.difference(facts.difference(literals))
 }
 
 // ---- group by group
@@ -148,7 +148,7 @@ fn settle_group<'a>(
         before result }
 {
     if numbers.len() == 0 {
-        if litset::equal(facts, litset::empty()) {
+        if facts.equal(LitSet::empty()) {
             return before;
         }
     }
@@ -172,8 +172,8 @@ fn settle_groups<'a>(
 {
     let mut numbers = [0u16; book::MAX_RULES];
     let mut v = Values {
-        truths: litset::empty(),
-        nonfalse: litset::empty(),
+        truths: LitSet::empty(),
+        nonfalse: LitSet::empty(),
     };
     let mut p: usize = 0;
     while p < name.len() {

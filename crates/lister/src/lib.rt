@@ -11,7 +11,7 @@ ghost use Rattle.lister.specs.Steps.{Room, Put, counts_to, verdicts_end, header_
 
 use book::Book;
 use fixpoint::{Model, Verdict};
-use litset::{Clash, LitSet};
+use litset::LitSet;
 
 // What became of a buffer: the listing's length, or that the buffer is shorter than the listing.
 #[derive(Clone, Copy)]
@@ -97,7 +97,7 @@ fn put_mark(t: &mut [u8], at: usize, marks: Marks, l: usize, stop: u8) -> usize
     requires { Room (field (words_by marks l) stop) at }
     ensures { Put (field (words_by marks l) stop) at t.old t.new result }
 {
-    if litset::contains(marks.contradictory, l) {
+    if marks.contradictory.contains(l) {
         return put_word(t, at, b"contradictory", stop);
     }
     put_verdict(t, at, marks.model, l, stop)
@@ -197,11 +197,11 @@ fn put_header<'a>(
     ensures { Put (header_of text.now lengths.now counts clash) 0 t.old t.new result }
 {
     match clash {
-        Clash::None => {
+        None => {
             let p = put_word(t, 0, b"model", b',');
             return put_counts(t, p, counts, b'\n');
         }
-        Clash::Name(k) => {
+        Some(k) => {
             let p = put_word(t, 0, b"contradiction", b',');
             let q = put_counts(t, p, counts, b',');
             return put_name_end(t, q, text, lengths, counts.names, k);
@@ -212,14 +212,14 @@ fn put_header<'a>(
 fn put_listing(t: &mut [u8], book: Book, facts: LitSet, marks: Marks) -> usize
     ensures { Put (listing_held book facts marks) 0 t.old t.new result }
 {
-    let names = book::name_count(book);
+    let names = book.name_count();
     let counts = Counts {
         names,
-        rules: book::rule_count(book),
-        facts: litset::count(facts),
+        rules: book.rule_count(),
+        facts: facts.count(),
         rounds: marks.model.rounds,
     };
-    let clash = litset::lowest_both(marks.model.truths);
+    let clash = marks.model.truths.lowest_both();
     let p = put_header(t, &book.text, &book.lengths, counts, clash);
     put_name_lines(t, p, &book.text, &book.lengths, names, marks)
 }

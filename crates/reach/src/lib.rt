@@ -15,7 +15,7 @@ ghost use Rattle.reach.specs.Reaching.{ReachingBoth};
 ghost use Rattle.reach.specs.Table.{n_names, table_size, row_words, row_set, paired_word, with_name, both_in, Put, Rows, WholeRows, ReachedBy, settled_with, Completed, TurnOf, SweptBy, WithReaching, RowsHaving, Met, below, NextBy, Released, PutFits, PutNames};
 
 use book::{Book, Entry};
-use litset::{Clash, LitSet};
+use litset::LitSet;
 
 // The words of a set.
 const WORDS: usize = litset::CAPACITY / 64;
@@ -40,7 +40,7 @@ pub struct Order {
 pub fn order_below(book: Book, names: usize) -> Order
     ensures { result ≡ order_table (working_order (rules_of book) (clamp max_names names)) }
 {
-    let rules = book::rule_count(book);
+    let rules = book.rule_count();
     let r = order_in(
         &book.heads,
         &book.starts,
@@ -56,9 +56,9 @@ pub fn order_below(book: Book, names: usize) -> Order
 pub fn reaching_both(book: Book, s: LitSet) -> LitSet
     ensures { ReachingBoth (rules_of book) (clamp max_names book.names) (set_of s.words) (set_of result.words) }
 {
-    match litset::lowest_both(s) {
-        Clash::None => litset::empty(),
-        Clash::Name(_) => reaching_by_table(book, s),
+    match s.lowest_both() {
+        None => LitSet::empty(),
+        Some(_) => reaching_by_table(book, s),
     }
 }
 
@@ -104,7 +104,7 @@ fn names_below(names: usize) -> LitSet
     requires { names ≤ n_names }
     ensures { set_of result.words ≡ literals_of (below names) }
 {
-    let mut s = litset::empty();
+    let mut s = LitSet::empty();
     let mut k: usize = 0;
     while k < names {
         s = with_name(s, k);
@@ -117,7 +117,7 @@ fn row_at(table: &[u64], k: usize) -> LitSet
     requires { (length table.now ≡ table_size) × (k < n_names) }
     ensures { result.words ≡ row_words table.now k }
 {
-    let mut row = litset::empty();
+    let mut row = LitSet::empty();
     let mut i: usize = 0;
     while i < WORDS {
         row.words[i] = table[WORDS * k + i];
@@ -142,7 +142,7 @@ fn add_set(table: &mut [u64], k: usize, s: LitSet)
     requires { (length table.old ≡ table_size) × (k < n_names) }
     ensures { Put table.old k (row_set table.old k ∪ set_of s.words) table.new }
 {
-    let row = litset::union(row_at(table, k), s);
+    let row = row_at(table, k).union(s);
     put_row(table, k, row);
 }
 
@@ -208,8 +208,8 @@ fn settled(done: LitSet, j: usize, whole: LitSet, row: LitSet) -> LitSet
     requires { j < n_names }
     ensures { set_of result.words ≡ settled_with j (set_of whole.words) (set_of row.words) (set_of done.words) }
 {
-    if litset::contains(whole, 2 * j) & litset::contains(row, 2 * j) {
-        return litset::union(done, row);
+    if whole.contains(2 * j) & row.contains(2 * j) {
+        return done.union(row);
     }
     with_name(done, j)
 }
@@ -219,16 +219,16 @@ fn reached(table: &[u64], whole: LitSet, k: usize) -> LitSet
     requires { (length table.now ≡ table_size) × (k < n_names) }
     ensures { ReachedBy table.now (set_of whole.words) k (set_of result.words) }
 {
-    let mut found = with_name(litset::empty(), k);
-    let mut done = litset::empty();
+    let mut found = with_name(LitSet::empty(), k);
+    let mut done = LitSet::empty();
     loop {
-        match litset::lowest_both(litset::difference(found, done)) {
-            Clash::None => {
+        match found.difference(done).lowest_both() {
+            None => {
                 return found;
             }
-            Clash::Name(j) => {
+            Some(j) => {
                 let row = row_at(table, j);
-                found = litset::union(found, row);
+                found = found.union(row);
                 done = settled(done, j, whole, row);
             }
         }
@@ -240,7 +240,7 @@ fn is_soon_found(table: &[u64], whole: LitSet, k: usize) -> bool
     requires { (length table.now ≡ table_size) × (k < n_names) }
 {
     let known = with_name(whole, k);
-    litset::equal(litset::union(known, row_at(table, k)), known)
+    known.union(row_at(table, k)).equal(known)
 }
 
 // Makes row k whole, where it is not yet and is soon found or wanted by all means. Answers with the names whose rows are whole.
@@ -248,7 +248,7 @@ fn complete(table: &mut [u64], whole: LitSet, k: usize, all: bool) -> LitSet
     requires { (length table.old ≡ table_size) × (k < n_names) }
     ensures { Completed table.old (set_of whole.words) k all table.new (set_of result.words) }
 {
-    if litset::contains(whole, 2 * k) {
+    if whole.contains(2 * k) {
         return whole;
     }
     if !all & !is_soon_found(table, whole, k) {
@@ -295,7 +295,7 @@ fn reach_table<'a>(
     ensures { WholeRows (rules_in heads.now starts.now entries.now rules) names result }
 {
     let mut table = direct(heads, starts, entries, rules);
-    let up = sweep(&mut table, litset::empty(), names, false, false);
+    let up = sweep(&mut table, LitSet::empty(), names, false, false);
     let down = sweep(&mut table, up, names, true, false);
     sweep(&mut table, down, names, false, true);
     table
@@ -308,9 +308,9 @@ fn reach_table<'a>(
 fn with_reaching(found: LitSet, more: LitSet, row: LitSet, s: LitSet) -> LitSet
     ensures { WithReaching (set_of found.words) (set_of more.words) (set_of row.words) (set_of s.words) (set_of result.words) }
 {
-    match litset::lowest_both(litset::difference(row, litset::difference(row, s))) {
-        Clash::None => found,
-        Clash::Name(_) => litset::union(found, more),
+    match row.difference(row.difference(s)).lowest_both() {
+        None => found,
+        Some(_) => found.union(more),
     }
 }
 
@@ -319,10 +319,10 @@ fn rows_having(table: &[u64], names: usize, s: LitSet) -> LitSet
     requires { (length table.now ≡ table_size) × (names ≤ n_names) }
     ensures { RowsHaving table.now names (set_of s.words) (set_of result.words) }
 {
-    let mut found = litset::empty();
+    let mut found = LitSet::empty();
     let mut k: usize = 0;
     while k < names {
-        let itself = with_name(litset::empty(), k);
+        let itself = with_name(LitSet::empty(), k);
         let row = row_at(table, k);
         found = with_reaching(found, itself, row, s);
         k += 1;
@@ -334,8 +334,8 @@ fn rows_having(table: &[u64], names: usize, s: LitSet) -> LitSet
 fn reaching_by_table(book: Book, s: LitSet) -> LitSet
     ensures { ReachingBoth (rules_of book) (clamp max_names book.names) (set_of s.words) (set_of result.words) }
 {
-    let rules = book::rule_count(book);
-    let names = book::name_count(book);
+    let rules = book.rule_count();
+    let names = book.name_count();
     let table = reach_table(&book.heads, &book.starts, &book.entries, rules, names);
     rows_having(&table, names, s)
 }
@@ -347,14 +347,14 @@ fn meet(table: &[u64], among: LitSet, k: usize) -> LitSet
     requires { (length table.now ≡ table_size) × (k < n_names) }
     ensures { Met table.now k (set_of among.words) (set_of result.words) }
 {
-    let mut met = with_name(litset::empty(), k);
+    let mut met = with_name(LitSet::empty(), k);
     loop {
-        match litset::lowest_both(litset::difference(among, met)) {
-            Clash::None => {
+        match among.difference(met).lowest_both() {
+            None => {
                 return met;
             }
-            Clash::Name(j) => {
-                if !litset::contains(row_at(table, j), 2 * k) {
+            Some(j) => {
+                if !row_at(table, j).contains(2 * k) {
                     return met;
                 }
                 met = with_name(met, j);
@@ -379,27 +379,27 @@ fn next_group(table: &[u64], left: LitSet, stuck: LitSet, watch: &mut [u64]) -> 
 {
     let mut out = stuck;
     loop {
-        match litset::lowest_both(litset::difference(left, out)) {
-            Clash::None => {
+        match left.difference(out).lowest_both() {
+            None => {
                 return NextGroup {
-                    group: litset::empty(),
+                    group: LitSet::empty(),
                     stuck: out,
                 };
             }
-            Clash::Name(k) => {
+            Some(k) => {
                 let row = row_at(table, k);
-                let among = litset::difference(row, litset::difference(row, left));
+                let among = row.difference(row.difference(left));
                 let met = meet(table, among, k);
-                match litset::lowest_both(litset::difference(among, met)) {
-                    Clash::None => {
+                match among.difference(met).lowest_both() {
+                    None => {
                         return NextGroup {
                             group: met,
                             stuck: out,
                         };
                     }
-                    Clash::Name(j) => {
+                    Some(j) => {
                         add_set(watch, j, met);
-                        out = litset::union(out, met);
+                        out = out.union(met);
                     }
                 }
             }
@@ -413,14 +413,14 @@ fn release(watch: &[u64], stuck: LitSet, group: LitSet) -> LitSet
     ensures { Released watch.now (set_of group.words) (set_of stuck.words) (set_of result.words) }
 {
     let mut out = stuck;
-    let mut done = litset::empty();
+    let mut done = LitSet::empty();
     loop {
-        match litset::lowest_both(litset::difference(group, done)) {
-            Clash::None => {
+        match group.difference(done).lowest_both() {
+            None => {
                 return out;
             }
-            Clash::Name(j) => {
-                out = litset::difference(out, row_at(watch, j));
+            Some(j) => {
+                out = out.difference(row_at(watch, j));
                 done = with_name(done, j);
             }
         }
@@ -443,15 +443,15 @@ fn put_names(
     let mut left = group;
     let mut p = at;
     loop {
-        match litset::lowest_both(left) {
-            Clash::None => {
+        match left.lowest_both() {
+            None => {
                 return p;
             }
-            Clash::Name(k) => {
+            Some(k) => {
                 name[p] = k as u16;
                 numbers[p] = number as u16;
                 p += 1;
-                left = litset::difference(left, with_name(litset::empty(), k));
+                left = left.difference(with_name(LitSet::empty(), k));
             }
         }
     }
@@ -473,12 +473,12 @@ fn order_in<'a>(
     let mut group = [0u16; book::MAX_NAMES];
     let mut left = names_below(names);
     let mut watch = [0u64; TABLE];
-    let mut stuck = litset::empty();
+    let mut stuck = LitSet::empty();
     let mut at: usize = 0;
     let mut groups: usize = 0;
     loop {
         let next = next_group(&table, left, stuck, &mut watch);
-        if litset::equal(next.group, litset::empty()) {
+        if next.group.equal(LitSet::empty()) {
             return Order {
                 names,
                 groups,
@@ -487,7 +487,7 @@ fn order_in<'a>(
             };
         }
         at = put_names(next.group, groups, at, &mut name, &mut group);
-        left = litset::difference(left, next.group);
+        left = left.difference(next.group);
         stuck = release(&watch, next.stuck, next.group);
         groups += 1;
     }
