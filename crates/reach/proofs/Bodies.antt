@@ -15,13 +15,14 @@ use Rattle.wfsx.specs.Sets.{Set, ∅, ◌∪◌}
 use Rattle.wfsx.specs.Program.{Entry, positive, default, Program}
 use Rattle.wfsx.specs.Reach.{name_of, name_in, name_for, mentioned, body_names, literals_of}
 use Rattle.wfsx.proofs.Reach.{mentioned_none, mentioned_first}
-use Rattle.litset.specs.Words.{capacity}
+use Rattle.litset.specs.declared.LitSet.{LitSet}
+use Rattle.litset.specs.Words.{capacity, set_of}
 use Rattle.book.specs.Book.{rows, entry_of, literal_in, body_start, body_end, entry_at, body_of, rule_at, rules_in}
 use Rattle.book.proofs.Parts.{part_step, part_end}
 use Rattle.book.proofs.Rows.{rows_step, rows_end}
 use Rattle.book.proofs.Heads.{entry_below}
-use Rattle.reach.specs.Table.{n_names, table_size, row_set, only, with_name, Put, Rows}
-use Rattle.reach.proofs.Rows.{row_zeros}
+use Rattle.reach.specs.Table.{n_names, row_set, only, with_name, Put, Rows}
+use Rattle.reach.proofs.Rows.{rows_alike}
 
 -- ---- the names of one body
 
@@ -66,17 +67,17 @@ module _ {starts entries : List ℕ} {R : Set} {r j : ℕ} {X : Set} (g : Named 
       ∙ ap (λ (S : Set). X ∪ literals_of S) mentioned_none ∙ fun_ext (λ A. or-false (X A)))
 
 -- row k has the names of the entries before place j as well, and no other row is changed
-pub record Adding (before : List ℕ) (k : ℕ) (starts entries : List ℕ) (r j : ℕ) (table : List ℕ) : Type 0 where
+pub record Adding (before : List LitSet) (k : ℕ) (starts entries : List ℕ) (r j : ℕ) (table : List LitSet) : Type 0 where
   pub size : length table ≡ length before
   pub others : (i : ℕ) → (i ≡ k → ⊥) → row_set table i ≡ row_set before i
   pub named : Named starts entries (row_set before k) r j (row_set table k)
 
-module _ (before : List ℕ) (k : ℕ) (starts entries : List ℕ) (r : ℕ) where
+module _ (before : List LitSet) (k : ℕ) (starts entries : List ℕ) (r : ℕ) where
   pub adding_none : {j : ℕ} → j ≡ body_start starts r → Adding before k starts entries r j before
   adding_none e = record { size = refl; others = λ i ne. refl; named = named_none e }
 
-  module _ {j : ℕ} {table : List ℕ} (g : Adding before k starts entries r j table) where
-    pub adding_more : (name : ℕ) (after : List ℕ) → j < body_end starts entries r → name ≡ name_in (entry_at entries j) → Put table k (with_name name (row_set table k)) after
+  module _ {j : ℕ} {table : List LitSet} (g : Adding before k starts entries r j table) where
+    pub adding_more : (name : ℕ) (after : List LitSet) → j < body_end starts entries r → name ≡ name_in (entry_at entries j) → Put table k (with_name name (row_set table k)) after
         → Adding before k starts entries r (j + 1) after
     adding_more name after h is put =
         record {
@@ -96,22 +97,22 @@ module _ (heads starts entries : List ℕ) (rules : ℕ) where
   rules_from r = rows (rule_at heads starts entries) r (rules - r)
 
   -- the rows have the names of the rules before r
-  pub record Drawn (table : List ℕ) (r : ℕ) : Type 0 where
-    pub size : length table ≡ table_size
+  pub record Drawn (table : List LitSet) (r : ℕ) : Type 0 where
+    pub size : length table ≡ n_names
     pub left : (k : ℕ) → k < n_names
         → literals_of (body_names (rules_in heads starts entries rules) (only k)) ≡ row_set table k ∪ literals_of (body_names (rules_from r) (only k))
 
-  pub drawn_none : Drawn (replicate table_size 0) 0
-  drawn_none =
+  pub drawn_none : (row : LitSet) → set_of row.words ≡ ∅ → Drawn (replicate n_names row) 0
+  drawn_none row e =
       record {
-        size = length-replicate {A = ℕ} table_size 0;
+        size = length-replicate {A = LitSet} n_names row;
         left = λ k h.
             ap (λ (n : ℕ). literals_of (body_names (rows (rule_at heads starts entries) 0 n) (only k))) (sym (sub-zero rules))
-            ∙ ap (λ (S : Set). S ∪ literals_of (body_names (rules_from 0) (only k))) (sym (row_zeros k h));
+            ∙ ap (λ (S : Set). S ∪ literals_of (body_names (rules_from 0) (only k))) (sym (rows_alike row e k h));
       }
 
-  module _ (table : List ℕ) (r : ℕ) (d : Drawn table r) where
-    pub drawn_more : (n : ℕ) (row : Set) (after : List ℕ) → r < rules → n ≡ name_for (rule_at heads starts entries r)
+  module _ (table : List LitSet) (r : ℕ) (d : Drawn table r) where
+    pub drawn_more : (n : ℕ) (row : Set) (after : List LitSet) → r < rules → n ≡ name_for (rule_at heads starts entries r)
         → row ≡ row_set table n ∪ literals_of (mentioned (body_of starts entries r)) → Put table n row after → Drawn after (r + 1)
     unfolding body_names
     drawn_more n row after h for joined put =

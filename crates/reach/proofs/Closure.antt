@@ -15,8 +15,9 @@ use Rattle.wfsx.specs.Program.{Entry, Rule, Program}
 use Rattle.wfsx.specs.Reach.{name_of, name_in, name_for, body_names, reach, literals_of}
 use Rattle.wfsx.proofs.Sets.{⊆_antisym}
 use Rattle.wfsx.proofs.Reach.{body_intro, body_elim, reach_itself, reach_body, reach_trans, reach_inside}
+use Rattle.litset.specs.declared.LitSet.{LitSet}
 use Rattle.litset.specs.Words.{capacity}
-use Rattle.litset.specs.declared.Clash.TheVariants.{None, Name}
+use Rattle.std.specs.Prelude.{Some, None}
 use Rattle.litset.proofs.Room.{free}
 use Rattle.reach.specs.Table.{n_names, row_set, only, with_name, both_in, Put, Rows, WholeRows, ReachedBy, settled_with, Swept, Completed, TurnOf, SweptBy}
 use Rattle.reach.proofs.Names.{with_name_has, with_name_keeps, double, literal_in_lem, both_names, left_out, LowestOf, grows}
@@ -92,7 +93,7 @@ module _ (P : Program) (k : ℕ) where
             (or_elim (eqb (name_for r) j) (g.over (name_for r)) a)
         go_on r e m b (inr a) = or_r (g.names (name_in e)) _ (d.closed r e m a b)
 
-    module _ (table : List ℕ) (whole : Set) (rows : Rows P whole table) where
+    module _ (table : List LitSet) (whole : Set) (rows : Rows P whole table) where
       growing_more : (j : ℕ) → j ∈ g.names → j < n_names → (found' done' row : Set) → row ≡ row_set table j → found' ≡ found ∪ row → done' ≡ settled_with j whole row done
           → Growing P k found' done'
       growing_more j here small found' done' row is f d = go (decided (whole (2 * j)))
@@ -136,10 +137,10 @@ module _ (P : Program) (k : ℕ) where
 
 -- ---- the loop's own values, whatever the program is
 
-pub record Grown (table : List ℕ) (whole : Set) (k : ℕ) (found done : Set) : Type 0 where
+pub record Grown (table : List LitSet) (whole : Set) (k : ℕ) (found done : Set) : Type 0 where
   pub by : (P : Program) → Rows P whole table → Growing P k found done
 
-pub grown_start : (table : List ℕ) (whole : Set) (k : ℕ) (found done none : Set) → found ≡ with_name k none → none ≡ ∅ → done ≡ ∅ → Grown table whole k found done
+pub grown_start : (table : List LitSet) (whole : Set) (k : ℕ) (found done none : Set) → found ≡ with_name k none → none ≡ ∅ → done ≡ ∅ → Grown table whole k found done
 grown_start table whole k found done none f n d = record { by = λ P rows. growing_start P k found done (f ∙ ap (with_name k) n) d }
 
 -- one more name is done
@@ -156,7 +157,7 @@ settled_falls j whole row found done left done' e low is inside =
     has (inl w) = rw w (or_r (done (2 * j)) _ (and_r (whole (2 * j)) _ w))
     has (inr w) = rw w (with_name_has j done)
 
-module _ (table : List ℕ) (whole : Set) (k : ℕ) (found done left : Set) (g : Grown table whole k found done) (is : left ≡ found ∖ done) where
+module _ (table : List LitSet) (whole : Set) (k : ℕ) (found done left : Set) (g : Grown table whole k found done) (is : left ≡ found ∖ done) where
   -- the names that are left
   names_left : (P : Program) (rows : Rows P whole table) → both_in left ≡ (g.by P rows).names ∖ (g.by P rows).over
   names_left P rows = both_names _ (is ∙ ap₂ (λ (S U : Set). S ∖ U) (g.by P rows).found_are (g.by P rows).done_are)
@@ -164,7 +165,7 @@ module _ (table : List ℕ) (whole : Set) (k : ℕ) (found done left : Set) (g :
   pub grown_end : LowestOf (both_in left) None → ReachedBy table whole k found
   grown_end none = record { is = λ P rows. growing_end P k (g.by P rows) (λ j. ap (λ (S : Set). S j) (sym (names_left P rows)) ∙ none j) }
 
-  pub grown_more : (j : ℕ) → j < n_names → LowestOf (both_in left) (Name j) → (found' done' row : Set) → row ≡ row_set table j → found' ≡ found ∪ row → done' ≡ settled_with j whole row done
+  pub grown_more : (j : ℕ) → j < n_names → LowestOf (both_in left) (Some j) → (found' done' row : Set) → row ≡ row_set table j → found' ≡ found ∪ row → done' ≡ settled_with j whole row done
       → Grown table whole k found' done'
   grown_more j h low found' done' row e f d =
       record {
@@ -175,14 +176,14 @@ module _ (table : List ℕ) (whole : Set) (k : ℕ) (found done left : Set) (g :
 
 -- ---- row by row
 
-pub swept_none : (table : List ℕ) (S : Set) → Swept table S table S
+pub swept_none : (table : List LitSet) (S : Set) → Swept table S table S
 swept_none table S = record { size = refl; keeps = λ A h. h; by = λ P rows. rows }
 
-pub swept_then : {table table' table'' : List ℕ} {S S' S'' : Set} → Swept table S table' S' → Swept table' S' table'' S'' → Swept table S table'' S''
+pub swept_then : {table table' table'' : List LitSet} {S S' S'' : Set} → Swept table S table' S' → Swept table' S' table'' S'' → Swept table S table'' S''
 swept_then a b = record { size = b.size ∙ a.size; keeps = λ A h. b.keeps A (a.keeps A h); by = λ P rows. b.by P (a.by P rows) }
 
 -- one more row is whole
-whole_more : (table after : List ℕ) (S S' row : Set) (k : ℕ) → ReachedBy table S k row → Put table k row after → S' ≡ with_name k S → Swept table S after S'
+whole_more : (table after : List LitSet) (S S' row : Set) (k : ℕ) → ReachedBy table S k row → Put table k row after → S' ≡ with_name k S → Swept table S after S'
 whole_more table after S S' row k reached put s =
     record {
       size = put.size;
@@ -200,15 +201,15 @@ whole_more table after S S' row k reached put s =
     at P rows i (no ne) h =
         put.others i ne ∙ rows.whole i (⊎_elim (λ e. absurd (ne (sym (double i) ∙ eqb-true (name_of (2 * i)) k e))) (λ m. m) (or_elim (eqb (name_of (2 * i)) k) (S (2 * i)) h))
 
-pub completed : (table after : List ℕ) (S S' row : Set) (k : ℕ) (all : Bool) → ReachedBy table S k row → Put table k row after → S' ≡ with_name k S → Completed table S k all after S'
+pub completed : (table after : List LitSet) (S S' row : Set) (k : ℕ) (all : Bool) → ReachedBy table S k row → Put table k row after → S' ≡ with_name k S → Completed table S k all after S'
 completed table after S S' row k all reached put s = record { swept = whole_more table after S S' row k reached put s; has = λ a. rw s (with_name_has k S) }
 
 -- ---- a way through the names, turn by turn
 
-pub sweep_start : (table : List ℕ) (S : Set) (down all : Bool) → SweptBy table S 0 down all table S
+pub sweep_start : (table : List LitSet) (S : Set) (down all : Bool) → SweptBy table S 0 down all table S
 sweep_start table S down all = record { swept = swept_none table S; each = λ a u j h. absurd (omega arith) }
 
-pub sweep_more : {table table' table'' : List ℕ} {S S' S'' : Set} {n i k : ℕ} {down all : Bool} → SweptBy table S i down all table' S' → TurnOf n i down k → Completed table' S' k all table'' S''
+pub sweep_more : {table table' table'' : List LitSet} {S S' S'' : Set} {n i k : ℕ} {down all : Bool} → SweptBy table S i down all table' S' → TurnOf n i down k → Completed table' S' k all table'' S''
     → SweptBy table S (i + 1) down all table'' S''
 sweep_more {S'' = S''} {i = i} {down = down} {all = all} g turn c = record { swept = swept_then g.swept c.swept; each = λ a u j h. at a u j h (ℕ_discrete j i) }
   where
@@ -217,5 +218,5 @@ sweep_more {S'' = S''} {i = i} {down = down} {all = all} g turn c = record { swe
     at a u j h (no ne) = c.swept.keeps (2 * j) (g.each a u j (omega arith))
 
 -- all rows below n are whole at the end
-pub swept_all : (P : Program) (n : ℕ) (table table' : List ℕ) (S S' : Set) → Rows P S table → Swept table S table' S' → ((j : ℕ) → j < n → 2 * j ∈ S') → WholeRows P n table'
+pub swept_all : (P : Program) (n : ℕ) (table table' : List LitSet) (S S' : Set) → Rows P S table → Swept table S table' S' → ((j : ℕ) → j < n → 2 * j ∈ S') → WholeRows P n table'
 swept_all P n table table' S S' rows swept all = let after = swept.by P rows in record { size = after.size; whole = λ i l. after.whole i (all i l) }

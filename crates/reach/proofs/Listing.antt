@@ -22,10 +22,12 @@ use Rattle.book.specs.Limits.{max_names}
 use Rattle.book.specs.Book.{padded, joined}
 use Rattle.book.proofs.Tables.{padded_length, padded_sets, joined_more}
 use Rattle.reach.specs.Order.{numbered, order_table}
-use Rattle.reach.specs.Table.{n_names, table_size, WholeRows, both_in, below, unlisted_below, Next, found, nothing, Waiting, Stuck, Released, PutFits, PutNames}
+use Rattle.litset.specs.declared.LitSet.{LitSet}
+use Rattle.litset.specs.Words.{set_of}
+use Rattle.reach.specs.Table.{n_names, WholeRows, both_in, below, unlisted_below, Next, found, nothing, Waiting, Stuck, Released, PutFits, PutNames}
 use Rattle.reach.proofs.Names.{both_names, literal_in_lem}
 use Rattle.reach.proofs.Placing.{members_below}
-use Rattle.reach.proofs.Rows.{row_zeros}
+use Rattle.reach.proofs.Rows.{rows_alike}
 use Rattle.reach.proofs.Waiting.{stuck_left}
 
 -- ---- the number of each place
@@ -64,7 +66,7 @@ module _ (P : Program) (n : ℕ) where
   abbrev named : ℕ → List ℕ
   named k = members n (group P k)
 
-  pub record Listing (left : Set) (watch : List ℕ) (stuck : Set) (name numbers : List ℕ) (at groups : ℕ) : Type 0 where
+  pub record Listing (left : Set) (watch : List LitSet) (stuck : Set) (name numbers : List ℕ) (at groups : ℕ) : Type 0 where
     pub listed : Set
     pub before : List (List ℕ)
     pub rest : List ℕ
@@ -80,9 +82,9 @@ module _ (P : Program) (n : ℕ) where
     pub names_are : name ≡ padded max_names (joined before)
     pub numbers_are : numbers ≡ padded max_names (numbered 0 before)
 
-  pub listing_start : n ≤ max_names → (left stuck : Set) → left ≡ literals_of (below n) → stuck ≡ ∅ → Listing left (replicate table_size 0) stuck (replicate max_names 0) (replicate max_names 0) 0 0
+  pub listing_start : n ≤ max_names → (left stuck : Set) (row : LitSet) → left ≡ literals_of (below n) → stuck ≡ ∅ → set_of row.words ≡ ∅ → Listing left (replicate n_names row) stuck (replicate max_names 0) (replicate max_names 0) 0 0
   unfolding joined numbered
-  listing_start most left stuck e none =
+  listing_start most left stuck row e none empty =
       record {
         listed = ∅;
         before = [];
@@ -92,8 +94,8 @@ module _ (P : Program) (n : ℕ) where
         left_are = e ∙ fun_ext (λ A. sym (and-true _));
         waiting =
             record {
-              size = length-replicate {A = ℕ} table_size 0;
-              watched = λ j A l h. absurd (clash (ap (λ (S : Set). S A) (sym (row_zeros j (omega arith))) ∙ h) refl);
+              size = length-replicate {A = LitSet} n_names row;
+              watched = λ j A l h. absurd (clash (ap (λ (S : Set). S A) (sym (rows_alike row empty j (omega arith))) ∙ h) refl);
               on = λ A h. absurd (clash (ap (λ (S : Set). S A) (sym none) ∙ h) refl);
             };
         all = order_is P n;
@@ -105,8 +107,8 @@ module _ (P : Program) (n : ℕ) where
         numbers_are = refl;
       }
 
-  module _ (left : Set) (watch : List ℕ) (stuck : Set) (name numbers : List ℕ) (at groups : ℕ) (s : Listing left watch stuck name numbers at groups) (most : n ≤ max_names) where
-    pub listing_waits : (table : List ℕ) → WholeRows P n table → Waiting P n s.listed table left
+  module _ (left : Set) (watch : List LitSet) (stuck : Set) (name numbers : List ℕ) (at groups : ℕ) (s : Listing left watch stuck name numbers at groups) (most : n ≤ max_names) where
+    pub listing_waits : (table : List LitSet) → WholeRows P n table → Waiting P n s.listed table left
     listing_waits table rows = record { most = omega arith; rows = rows; groups = s.whole; left_are = s.left_are }
 
     pub name_size : length name ≡ max_names
@@ -178,7 +180,7 @@ module _ (P : Program) (n : ℕ) where
         pub listing_less : n - end < n - at
         listing_less = omega (arith, end_is, counts, some_name)
 
-        pub listing_more : (left' : Set) (watch' : List ℕ) (waits stuck' : Set) → left' ≡ left ∖ G → Stuck P n s.listed watch' waits → Released watch' G waits stuck'
+        pub listing_more : (left' : Set) (watch' : List LitSet) (waits stuck' : Set) → left' ≡ left ∖ G → Stuck P n s.listed watch' waits → Released watch' G waits stuck'
             → Listing left' watch' stuck' name' numbers' end (groups + 1)
         unfolding later
         listing_more left' watch' waits stuck' e t r =

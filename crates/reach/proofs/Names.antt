@@ -12,8 +12,7 @@ use Rattle.wfsx.specs.Sets.{Set, ◌∈◌, ◌∉◌, ◌⊆◌, ∅, ◌∖◌
 use Rattle.wfsx.specs.Model.{Both}
 use Rattle.wfsx.specs.Reach.{name_of, literals_of}
 use Rattle.litset.specs.Words.{capacity, with, ClashOf, clash_in}
-use Rattle.litset.specs.declared.Clash.{Clash}
-use Rattle.litset.specs.declared.Clash.TheVariants.{None, Name}
+use Rattle.std.specs.Prelude.{Option, Some, None}
 use Rattle.litset.proofs.Words.{with_room}
 use Rattle.litset.proofs.Clashes.{clash_of}
 use Rattle.litset.proofs.Room.{free, free_falls}
@@ -60,20 +59,20 @@ both_names W {S} e = fun_ext (λ k. let next : name_of (2 * k + 1) ≡ k = omega
     ap₂ ◌&&◌ (literal_in_lem W e k) (ap (λ (U : Set). U (2 * k + 1)) e ∙ ap W next) ∙ and_self (W k))
 
 -- the lowest name of W, if W has any; a set has room for it
-abbrev pub LowestOf : Set → Clash → Type 0
+abbrev pub LowestOf : Set → Option ℕ → Type 0
 LowestOf W None = (k : ℕ) → k ∉ W
-LowestOf W (Name k) = (k ∈ W) × ((j : ℕ) → j < k → j ∉ W) × (k < n_names)
+LowestOf W (Some k) = (k ∈ W) × ((j : ℕ) → j < k → j ∉ W) × (k < n_names)
 
-module _ (S : Set) (inside : (A : ℕ) → A ∈ S → A < capacity) (c : Clash) (is : c ≡ clash_in S) where
-  pub lowest_of : (d : Clash) → c ≡ d → LowestOf (both_in S) d
-  lowest_of d e = go d (subst (λ (x : Clash). ClashOf S x) (sym is ∙ e) (clash_of S inside))
+module _ (S : Set) (inside : (A : ℕ) → A ∈ S → A < capacity) (c : Option ℕ) (is : c ≡ clash_in S) where
+  pub lowest_of : (d : Option ℕ) → c ≡ d → LowestOf (both_in S) d
+  lowest_of d e = go d (subst (λ (x : Option ℕ). ClashOf S x) (sym is ∙ e) (clash_of S inside))
     where
       none : (k : ℕ) → (Both S k → ⊥) → k ∉ both_in S
       none k f = refuted (λ h. f (and_l (S (2 * k)) _ h, and_r (S (2 * k)) _ h))
 
-      go : (x : Clash) → ClashOf S x → LowestOf (both_in S) x
+      go : (x : Option ℕ) → ClashOf S x → LowestOf (both_in S) x
       go None f = λ k. none k (f k)
-      go (Name k) f = let high = inside (2 * k + 1) f.0.1 in (and_intro _ _ f.0.0 f.0.1, λ j h. none j (f.1 j h), omega arith)
+      go (Some k) f = let high = inside (2 * k + 1) f.0.1 in (and_intro _ _ f.0.0 f.0.1, λ j h. none j (f.1 j h), omega arith)
 
 -- ---- the members of two sets
 

@@ -13,7 +13,7 @@ use lib.Seq.{sets}
 use borrow.Author.Tests.{eq-eqb, ne_eqb, lt-ltb, le-ltb}
 use Rattle.wfsx.specs.Sets.{Set, ◌∈◌, ◌∉◌, ∅, ◌∖◌, members_from, members}
 use Rattle.wfsx.specs.Reach.{name_of}
-use Rattle.litset.specs.declared.Clash.TheVariants.{None, Name}
+use Rattle.std.specs.Prelude.{Some, None}
 use Rattle.reach.specs.Table.{n_names, only, with_name, both_in, PutFits, PutNames}
 use Rattle.reach.proofs.Names.{LowestOf}
 
@@ -96,7 +96,7 @@ module _ (S : Set) (number at : ℕ) (name numbers : List ℕ) where
           counted = sym (t.counted ∙ ap (λ (l : List ℕ). sets numbers' p (map (λ _. number) l)) over);
         }
 
-    module _ (k : ℕ) (low : LowestOf (both_in left) (Name k)) where
+    module _ (k : ℕ) (low : LowestOf (both_in left) (Some k)) where
       next_first : members n_names (both_in left) ≡ k ∷ members n_names (both_in left ∖ only k)
       next_first = first_member (both_in left) k 0 n_names low.0 (omega arith) (omega (arith, low.2)) low.1
 

@@ -16,7 +16,8 @@ use Rattle.wfsx.specs.Model.{Both}
 use Rattle.wfsx.specs.Reach.{name_of, reach, literals_of}
 use Rattle.wfsx.specs.ContradictoryNames.{ReachesBoth}
 use Rattle.wfsx.proofs.Reach.{reach_is}
-use Rattle.litset.specs.declared.Clash.TheVariants.{None, Name}
+use Rattle.std.specs.Prelude.{Some, None}
+use Rattle.litset.specs.declared.LitSet.{LitSet}
 use Rattle.reach.specs.Table.{row_set, with_name, both_in, WholeRows, ShareBoth, WithReaching, RowsHaving}
 use Rattle.reach.specs.Reaching.{ReachingBoth}
 use Rattle.reach.proofs.Names.{common, both_names, LowestOf}
@@ -46,7 +47,7 @@ module _ (F more row S shared rest : Set) (rest_is : rest ≡ row ∖ S) (shared
         exactly = λ A. (λ h. inl (rw e at h), ⊎_elim (λ h. rw e h) (λ h. absurd (clash ((both_shared h.1.0).1 (h.1.1, h.1.2)) (none h.1.0))));
       }
 
-  pub shares_some : (k : ℕ) → LowestOf (both_in shared) (Name k) → (R : Set) → R ≡ F ∪ more → WithReaching F more row S R
+  pub shares_some : (k : ℕ) → LowestOf (both_in shared) (Some k) → (R : Set) → R ≡ F ∪ more → WithReaching F more row S R
   shares_some k low R e =
       let b = (both_shared k).0 low.0 in
       record {
@@ -60,7 +61,7 @@ alone : (k : ℕ) (more none : Set) → more ≡ with_name k none → none ≡ �
 alone k more none is empty A =
     (λ h. ⊎_elim (λ e. eqb-true (name_of A) k e) (λ f. absurd (clash f refl)) (or_elim (eqb (name_of A) k) false (rw (is, empty) at h)), λ e. rw is (or_l (eqb (name_of A) k) _ (eq-eqb (name_of A) k e)))
 
-module _ (table : List ℕ) (S : Set) where
+module _ (table : List LitSet) (S : Set) where
   pub having_none : (R : Set) → R ≡ ∅ → RowsHaving table 0 S R
   having_none R e = record { exactly = λ A. (λ h. absurd (clash h (ap (λ (U : Set). U A) e)), λ w. absurd (omega (arith, w.0))) }
 
@@ -89,7 +90,7 @@ whole_shares P S row i is = (λ (k, b, s). (k, (reach_is P i k).0 (sym (named k)
     two : (k : ℕ) → k ∈ both_in row → Both row k
     two k h = (and_l (row (2 * k)) _ h, and_r (row (2 * k)) _ h)
 
-pub reaching_is : (P : Program) (n : ℕ) (table : List ℕ) (S R : Set) → WholeRows P n table → RowsHaving table n S R → ReachingBoth P n S R
+pub reaching_is : (P : Program) (n : ℕ) (table : List LitSet) (S R : Set) → WholeRows P n table → RowsHaving table n S R → ReachingBoth P n S R
 reaching_is P n table S R rows g =
     record {
       exactly = λ A.

@@ -17,17 +17,18 @@ use Rattle.wfsx.specs.Reach.{name_of, reach, group, literals_of}
 use Rattle.wfsx.specs.Groups.{MayCome}
 use Rattle.wfsx.proofs.Sets.{⊆_antisym}
 use Rattle.wfsx.proofs.Reach.{reach_itself, reach_trans, reach_is, group_is}
-use Rattle.litset.specs.declared.Clash.TheVariants.{None, Name}
+use Rattle.std.specs.Prelude.{Some, None}
+use Rattle.litset.specs.declared.LitSet.{LitSet}
 use Rattle.reach.specs.Table.{row_set, with_name, both_in, Put, Meeting, Met, unlisted_below, Next, found, nothing, Waiting, Stuck, Noted, NextBy, Released}
 use Rattle.reach.proofs.Names.{with_name_has, with_name_keeps, literal_in_lem, both_names, LowestOf, common, taken}
 
 -- ---- names that reach k, from the lowest on
 
-pub record Gathered (table : List ℕ) (k : ℕ) (among met : Set) : Type 0 where
+pub record Gathered (table : List LitSet) (k : ℕ) (among met : Set) : Type 0 where
   pub has : 2 * k ∈ met
   pub by : (U : Set) → among ≡ literals_of U → Meeting table k U met
 
-pub gathered_start : (table : List ℕ) (k : ℕ) (among met none : Set) → met ≡ with_name k none → none ≡ ∅ → Gathered table k among met
+pub gathered_start : (table : List LitSet) (k : ℕ) (among met none : Set) → met ≡ with_name k none → none ≡ ∅ → Gathered table k among met
 gathered_start table k among met none is empty =
     record {
       has = rw is (with_name_has k none);
@@ -40,7 +41,7 @@ gathered_start table k among met none is empty =
           };
     }
 
-module _ (table : List ℕ) (k : ℕ) (among met left : Set) (g : Gathered table k among met) (is : left ≡ among ∖ met) where
+module _ (table : List LitSet) (k : ℕ) (among met left : Set) (g : Gathered table k among met) (is : left ≡ among ∖ met) where
   module _ (U : Set) (e : among ≡ literals_of U) where
     abbrev so_far : Meeting table k U met
     so_far = g.by U e
@@ -60,7 +61,7 @@ module _ (table : List ℕ) (k : ℕ) (among met left : Set) (g : Gathered table
   gathered_all none = record { has = g.has; is = g.by; stops = λ j h l. absurd (clash (still j ∙ h) (none j)) }
 
   -- the lowest name left does not reach k
-  pub gathered_stop : (j : ℕ) → LowestOf (both_in left) (Name j) → 2 * k ∉ row_set table j → Met table k among met
+  pub gathered_stop : (j : ℕ) → LowestOf (both_in left) (Some j) → 2 * k ∉ row_set table j → Met table k among met
   gathered_stop j low out = record { has = g.has; is = g.by; stops = λ i h l. rw (same i (still i ∙ h) (λ q b. still q ∙ l q b) (dec_lt i j) (dec_lt j i)) out }
     where
       same : (i : ℕ) → i ∈ both_in left → ((q : ℕ) → q < i → q ∉ both_in left) → Dec (i < j) → Dec (j < i) → i ≡ j
@@ -87,16 +88,16 @@ module _ (table : List ℕ) (k : ℕ) (among met left : Set) (g : Gathered table
 
 module _ (P : Program) (n : ℕ) (listed : Set) where
   -- a name that waits may not come
-  stuck_waits : (watch : List ℕ) (stuck : Set) → Stuck P n listed watch stuck → (A : ℕ) → A ∈ stuck → MayCome P n listed (name_of A) → ⊥
+  stuck_waits : (watch : List LitSet) (stuck : Set) → Stuck P n listed watch stuck → (A : ℕ) → A ∈ stuck → MayCome P n listed (name_of A) → ⊥
   stuck_waits watch stuck t A h c =
       let (j, l, u, has) = t.on A h in
       let w = t.watched j A l has in
       ⊎_elim (λ q. clash ((reach_is P j (name_of A)).1 q) w.1) (λ q. clash q u) (c.others_listed j l ((reach_is P (name_of A) j).0 w.0))
 
   -- more of them, in the row of one name
-  module _ (watch : List ℕ) (stuck : Set) (t : Stuck P n listed watch stuck) (j : ℕ) (below : j < n) (unlisted : j ∉ listed) (more : Set)
+  module _ (watch : List LitSet) (stuck : Set) (t : Stuck P n listed watch stuck) (j : ℕ) (below : j < n) (unlisted : j ∉ listed) (more : Set)
       (wait : (A : ℕ) → A ∈ more → (j ∈ reach P (name_of A)) × (name_of A ∉ reach P j))
-      (watch' : List ℕ) (put : Put watch j (row_set watch j ∪ more) watch') (stuck' : Set) (is : stuck' ≡ stuck ∪ more) where
+      (watch' : List LitSet) (put : Put watch j (row_set watch j ∪ more) watch') (stuck' : Set) (is : stuck' ≡ stuck ∪ more) where
     stuck_more : Stuck P n listed watch' stuck'
     stuck_more =
         record {
@@ -119,7 +120,7 @@ module _ (P : Program) (n : ℕ) (listed : Set) where
 
 -- ---- a group whose turn it is
 
-module _ (P : Program) (n : ℕ) (listed : Set) (table : List ℕ) (left : Set) (w : Waiting P n listed table left) (watch : List ℕ) (out rest : Set) (t : Stuck P n listed watch out) (is : rest ≡ left ∖ out) where
+module _ (P : Program) (n : ℕ) (listed : Set) (table : List LitSet) (left : Set) (w : Waiting P n listed table left) (watch : List LitSet) (out rest : Set) (t : Stuck P n listed watch out) (is : rest ≡ left ∖ out) where
   -- a name that is not among those to try may not come
   passed : (j : ℕ) → j ∉ both_in rest → MayCome P n listed j → ⊥
   passed j o c =
@@ -130,7 +131,7 @@ module _ (P : Program) (n : ℕ) (listed : Set) (table : List ℕ) (left : Set) 
   none_left : LowestOf (both_in rest) None → (G : Set) → G ≡ ∅ → Next P n listed G
   none_left none G e = nothing (λ k c. passed k (none k) c) e
 
-  module _ (k : ℕ) (low : LowestOf (both_in rest) (Name k)) (row among met : Set) (row_is : row ≡ row_set table k) (among_is : among ≡ row ∖ (row ∖ left)) (m : Met table k among met) (unmet : Set) (unmet-is : unmet ≡ among ∖ met) where
+  module _ (k : ℕ) (low : LowestOf (both_in rest) (Some k)) (row among met : Set) (row_is : row ≡ row_set table k) (among_is : among ≡ row ∖ (row ∖ left)) (m : Met table k among met) (unmet : Set) (unmet-is : unmet ≡ among ∖ met) where
     here : k ∈ unlisted_below n listed
     here = sym (literal_in_lem (unlisted_below n listed) w.left_are k) ∙ and_l (left (2 * k)) _ (ap (λ (S : Set). S (2 * k)) (sym is) ∙ and_l (rest (2 * k)) _ low.0)
 
@@ -208,7 +209,7 @@ module _ (P : Program) (n : ℕ) (listed : Set) (table : List ℕ) (left : Set) 
             all j (reached_intro j ((reach_is P k j).1 ((group_is P k j).0 g).0) (ltb-true j n (and_l (ltb j n) _ h)) u)
 
     -- the names met wait for one that does not reach k
-    stuck_met : (j : ℕ) → LowestOf (both_in unmet) (Name j) → (watch' : List ℕ) → Put watch j (row_set watch j ∪ met) watch' → (out' : Set) → out' ≡ out ∪ met
+    stuck_met : (j : ℕ) → LowestOf (both_in unmet) (Some j) → (watch' : List LitSet) → Put watch j (row_set watch j ∪ met) watch' → (out' : Set) → out' ≡ out ∪ met
         → Stuck P n listed watch' out'
     stuck_met j first watch' put out' e =
         stuck_more P n listed watch out t j r.1 r.2 met wait watch' put out' e
@@ -230,20 +231,20 @@ module _ (P : Program) (n : ℕ) (listed : Set) (table : List ℕ) (left : Set) 
 
 -- ---- the loop's own values, whatever the program is
 
-module _ (table : List ℕ) (left : Set) (watch : List ℕ) (stuck : Set) where
+module _ (table : List LitSet) (left : Set) (watch : List LitSet) (stuck : Set) where
   pub noted_none : Noted table left watch stuck watch stuck
   noted_none = record { size = refl; by = λ P n listed w t. t }
 
-  module _ (watch₁ : List ℕ) (out rest : Set) (p : Noted table left watch stuck watch₁ out) (is : rest ≡ left ∖ out) where
+  module _ (watch₁ : List LitSet) (out rest : Set) (p : Noted table left watch stuck watch₁ out) (is : rest ≡ left ∖ out) where
     pub noted_all : LowestOf (both_in rest) None → (G : Set) → G ≡ ∅ → NextBy table left watch stuck watch₁ out G
     noted_all none G e = record { noted = p; is = λ P n listed w t. none_left P n listed table left w watch₁ out rest (p.by P n listed w t) is none G e }
 
-    module _ (k : ℕ) (low : LowestOf (both_in rest) (Name k)) (row among met : Set) (row_is : row ≡ row_set table k) (among_is : among ≡ row ∖ (row ∖ left)) (m : Met table k among met) (unmet : Set) (unmet-is : unmet ≡ among ∖ met) where
+    module _ (k : ℕ) (low : LowestOf (both_in rest) (Some k)) (row among met : Set) (row_is : row ≡ row_set table k) (among_is : among ≡ row ∖ (row ∖ left)) (m : Met table k among met) (unmet : Set) (unmet-is : unmet ≡ among ∖ met) where
       pub noted_next : LowestOf (both_in unmet) None → NextBy table left watch stuck watch₁ out met
       noted_next none =
           record { noted = p; is = λ P n listed w t. next_comes P n listed table left w watch₁ out rest (p.by P n listed w t) is k low row among met row_is among_is m unmet unmet-is none }
 
-      pub noted_more : (j : ℕ) → LowestOf (both_in unmet) (Name j) → (watch₂ : List ℕ) → Put watch₁ j (row_set watch₁ j ∪ met) watch₂ → (out' : Set) → out' ≡ out ∪ met
+      pub noted_more : (j : ℕ) → LowestOf (both_in unmet) (Some j) → (watch₂ : List LitSet) → Put watch₁ j (row_set watch₁ j ∪ met) watch₂ → (out' : Set) → out' ≡ out ∪ met
           → Noted table left watch stuck watch₂ out'
       noted_more j first watch₂ put out' e =
           record {
@@ -254,11 +255,11 @@ module _ (table : List ℕ) (left : Set) (watch : List ℕ) (stuck : Set) where
 -- ---- names that need not wait
 
 -- the names of the rows in `done` are taken out
-pub record Releasing (watch : List ℕ) (stuck done out : Set) : Type 0 where
+pub record Releasing (watch : List LitSet) (stuck done out : Set) : Type 0 where
   pub stay : out ⊆ stuck
   pub apart : (B A : ℕ) → B ∈ done → A ∈ out → A ∉ row_set watch (name_of B)
 
-module _ (watch : List ℕ) (stuck : Set) where
+module _ (watch : List LitSet) (stuck : Set) where
   pub releasing_start : (done : Set) → done ≡ ∅ → Releasing watch stuck done stuck
   releasing_start done e = record { stay = λ A h. h; apart = λ B A h o. absurd (clash (ap (λ (S : Set). S B) (sym e) ∙ h) refl) }
 
@@ -280,7 +281,7 @@ module _ (watch : List ℕ) (stuck : Set) where
         go A o (B, e, h) = rw (← e) (r.apart B A h o)
 
 -- the names that stay wait for names that are left once the group is listed too
-pub stuck_left : (P : Program) (n : ℕ) (listed : Set) (watch : List ℕ) (stuck stuck' G more : Set) → Stuck P n listed watch stuck → Released watch G stuck stuck'
+pub stuck_left : (P : Program) (n : ℕ) (listed : Set) (watch : List LitSet) (stuck stuck' G more : Set) → Stuck P n listed watch stuck → Released watch G stuck stuck'
     → ((j : ℕ) → j < n → j ∈ more → j ∈ both_in G) → Stuck P n (listed ∪ more) watch stuck'
 stuck_left P n listed watch stuck stuck' G more t r inside = record { size = t.size; watched = t.watched; on = λ A h. go A h (t.on A (r.stay A h)) }
   where

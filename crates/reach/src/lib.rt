@@ -1,6 +1,6 @@
 // What the names of a book reach: their working order, group by group the lowest name whose group waits for no other, and the names that reach one
 // with both literals in a set. A set of names is a set of literals that has both literals of each name, and a table of what each name reaches has such a
-// set as words for each name.
+// set for each name.
 #![tactic(auto)]
 
 ghost use Rattle.std.specs.Prelude.{◌≡◌, ◌≤◌, ◌<◌, length};
@@ -9,22 +9,16 @@ ghost use Rattle.wfsx.specs.Reach.{name_of, name_in, mentioned, literals_of};
 ghost use Rattle.wfsx.specs.Groups.{working_order};
 ghost use Rattle.litset.specs.Words.{set_of};
 ghost use Rattle.book.specs.Limits.{max_names};
-ghost use Rattle.book.specs.Book.{clamp, entry_is, head_at, body_of, rules_in, rules_of};
+ghost use Rattle.book.specs.Book.{clamp, entry_is, head_at, body_of, rules_of};
 ghost use Rattle.reach.specs.Order.{order_table};
 ghost use Rattle.reach.specs.Reaching.{ReachingBoth};
-ghost use Rattle.reach.specs.Table.{n_names, table_size, row_words, row_set, paired_word, with_name, both_in, Put, Rows, WholeRows, ReachedBy, settled_with, Completed, TurnOf, SweptBy, WithReaching, RowsHaving, Met, below, NextBy, Released, PutFits, PutNames};
+ghost use Rattle.reach.specs.Table.{n_names, row_set, paired_word, with_name, both_in, Put, Rows, WholeRows, ReachedBy, settled_with, Completed, TurnOf, SweptBy, WithReaching, RowsHaving, Met, below, NextBy, Released, PutFits, PutNames};
 
 use book::{Book, Entry};
 use litset::LitSet;
 
-// The words of a set.
-const WORDS: usize = litset::CAPACITY / 64;
-
 // The names that a set has room for.
 const NAMES: usize = litset::CAPACITY / 2;
-
-// The words of a table with a set for each name.
-const TABLE: usize = WORDS * NAMES;
 
 // Place p has the name with the number name[p], of the group with the number group[p]; groups count from 0. Places past the names are 0.
 #[repr(C)]
@@ -37,24 +31,16 @@ pub struct Order {
 }
 
 // The names of a book below a number, in working order.
-pub fn order_below(book: Book, names: usize) -> Order
-    ensures { result ≡ order_table (working_order (rules_of book) (clamp max_names names)) }
+pub fn order_below(book: &Book, names: usize) -> Order
+    ensures { result ≡ order_table (working_order (rules_of book.now) (clamp max_names names)) }
 {
-    let rules = book.rule_count();
-    let r = order_in(
-        &book.heads,
-        &book.starts,
-        &book.entries,
-        rules,
-        clamped(names),
-    );
-    r
+    order_in(book, names.min(book::MAX_NAMES))
 }
 
 // Both literals of each name of the book that reaches a name with both literals in a set. A name reaches itself, so such a name is among them. Where there is
 // none, nothing has to be reached.
-pub fn reaching_both(book: Book, s: LitSet) -> LitSet
-    ensures { ReachingBoth (rules_of book) (clamp max_names book.names) (set_of s.words) (set_of result.words) }
+pub fn reaching_both(book: &Book, s: LitSet) -> LitSet
+    ensures { ReachingBoth (rules_of book.now) (clamp max_names book.now.names) (set_of s.words) (set_of result.words) }
 {
     match s.lowest_both() {
         None => LitSet::empty(),
@@ -62,17 +48,7 @@ pub fn reaching_both(book: Book, s: LitSet) -> LitSet
     }
 }
 
-fn clamped(names: usize) -> usize
-    ensures { result ≡ clamp max_names names }
-{
-    if names < book::MAX_NAMES {
-        names
-    } else {
-        book::MAX_NAMES
-    }
-}
-
-// ---- sets of names, and tables of them
+// ---- sets of names
 
 // Word i of a set, with both literals of name k where they are of that word.
 fn with_pair(word: u64, i: usize, k: usize) -> u64
@@ -92,10 +68,8 @@ fn with_name(s: LitSet, k: usize) -> LitSet
     ensures { set_of result.words ≡ with_name k (set_of s.words) }
 {
     let mut t = s;
-    let mut i: usize = 0;
-    while i < WORDS {
-        t.words[i] = with_pair(t.words[i], i, k);
-        i += 1;
+    for (i, word) in t.words.iter_mut().enumerate() {
+        *word = with_pair(*word, i, k);
     }
     t
 }
@@ -105,48 +79,21 @@ fn names_below(names: usize) -> LitSet
     ensures { set_of result.words ≡ literals_of (below names) }
 {
     let mut s = LitSet::empty();
-    let mut k: usize = 0;
-    while k < names {
+    for k in 0..names {
         s = with_name(s, k);
-        k += 1;
     }
     s
 }
 
-fn row_at(table: &[u64], k: usize) -> LitSet
-    requires { (length table.now ≡ table_size) × (k < n_names) }
-    ensures { result.words ≡ row_words table.now k }
-{
-    let mut row = LitSet::empty();
-    let mut i: usize = 0;
-    while i < WORDS {
-        row.words[i] = table[WORDS * k + i];
-        i += 1;
-    }
-    row
-}
-
-fn put_row(table: &mut [u64], k: usize, row: LitSet)
-    requires { (length table.old ≡ table_size) × (k < n_names) }
-    ensures { Put table.old k (set_of row.words) table.new }
-{
-    let mut i: usize = 0;
-    while i < WORDS {
-        table[WORDS * k + i] = row.words[i];
-        i += 1;
-    }
-}
-
-// Row k with the names of a set added.
-fn add_set(table: &mut [u64], k: usize, s: LitSet)
-    requires { (length table.old ≡ table_size) × (k < n_names) }
-    ensures { Put table.old k (row_set table.old k ∪ set_of s.words) table.new }
-{
-    let row = row_at(table, k).union(s);
-    put_row(table, k, row);
-}
-
 // ---- what each name reaches
+
+// Row k of a table.
+fn row_at(table: &[LitSet; NAMES], k: usize) -> LitSet
+    requires { (length table.now ≡ n_names) × (k < n_names) }
+    ensures { set_of result.words ≡ row_set table.now k }
+{
+    table[k]
+}
 
 fn name_in(e: Entry) -> usize
     ensures { result ≡ name_in (entry_is e) }
@@ -157,28 +104,18 @@ fn name_in(e: Entry) -> usize
     }
 }
 
-// Row k with name j added.
-fn add_name(table: &mut [u64], k: usize, j: usize)
-    requires { (length table.old ≡ table_size) × (k < n_names) × (j < n_names) }
-    ensures { Put table.old k (with_name j (row_set table.old k)) table.new }
-{
-    let i = WORDS * k + j / 32;
-    let at = 2 * (j % 32);
-    table[i] = table[i] | (1u64 << at) | (1u64 << (at + 1));
-}
-
 // Row k with the names in the body of rule r added.
-fn add_names<'a>(starts: &'a [u16], entries: &'a [u16], r: usize, table: &mut [u64], k: usize)
-    requires { (length table.old ≡ table_size) × (k < n_names) }
+fn add_names(book: &Book, r: usize, table: &mut [LitSet; NAMES], k: usize)
+    requires { (length table.old ≡ n_names) × (k < n_names) }
     ensures { Put table.old k
-        (row_set table.old k ∪ literals_of (mentioned (body_of starts.now entries.now r))) table.new }
+        (row_set table.old k ∪ literals_of (mentioned (body_of book.now.starts book.now.entries r))) table.new }
 {
-    let mut j = book::body_start(starts, r);
-    let end = book::body_end(starts, entries, r);
-    while j < end {
-        let name = name_in(book::entry_at(entries, j));
-        add_name(table, k, name);
-        j += 1;
+    let start = book::body_start(&book.starts, r);
+    let end = book::body_end(&book.starts, &book.entries, r);
+    for j in start..end {
+        let name = name_in(book::entry_at(&book.entries, j));
+        let row = with_name(row_at(table, k), name);
+        table[k] = row;
     }
 }
 
@@ -190,15 +127,13 @@ fn name_for(heads: &[u16], r: usize) -> usize
 }
 
 // The names in the bodies of each name's rules. No row is whole yet.
-fn direct<'a>(heads: &'a [u16], starts: &'a [u16], entries: &'a [u16], rules: usize) -> [u64; TABLE]
-    ensures { Rows (rules_in heads.now starts.now entries.now rules) ∅ result }
+fn direct(book: &Book) -> [LitSet; NAMES]
+    ensures { Rows (rules_of book.now) ∅ result }
 {
-    let mut table = [0u64; TABLE];
-    let mut r: usize = 0;
-    while r < rules {
-        let k = name_for(heads, r);
-        add_names(starts, entries, r, &mut table, k);
-        r += 1;
+    let mut table = [LitSet::empty(); NAMES];
+    for r in 0..book.rule_count() {
+        let k = name_for(&book.heads, r);
+        add_names(book, r, &mut table, k);
     }
     table
 }
@@ -215,8 +150,8 @@ fn settled(done: LitSet, j: usize, whole: LitSet, row: LitSet) -> LitSet
 }
 
 // What name k reaches: the names found until the bodies of all of them are.
-fn reached(table: &[u64], whole: LitSet, k: usize) -> LitSet
-    requires { (length table.now ≡ table_size) × (k < n_names) }
+fn reached(table: &[LitSet; NAMES], whole: LitSet, k: usize) -> LitSet
+    requires { (length table.now ≡ n_names) × (k < n_names) }
     ensures { ReachedBy table.now (set_of whole.words) k (set_of result.words) }
 {
     let mut found = with_name(LitSet::empty(), k);
@@ -236,16 +171,16 @@ fn reached(table: &[u64], whole: LitSet, k: usize) -> LitSet
 }
 
 // Whether the bodies of name k's rules speak of k and of names with whole rows alone: then its row is soon found. Any answer would be right.
-fn is_soon_found(table: &[u64], whole: LitSet, k: usize) -> bool
-    requires { (length table.now ≡ table_size) × (k < n_names) }
+fn is_soon_found(table: &[LitSet; NAMES], whole: LitSet, k: usize) -> bool
+    requires { (length table.now ≡ n_names) × (k < n_names) }
 {
     let known = with_name(whole, k);
     known.union(row_at(table, k)).equal(known)
 }
 
 // Makes row k whole, where it is not yet and is soon found or wanted by all means. Answers with the names whose rows are whole.
-fn complete(table: &mut [u64], whole: LitSet, k: usize, all: bool) -> LitSet
-    requires { (length table.old ≡ table_size) × (k < n_names) }
+fn complete(table: &mut [LitSet; NAMES], whole: LitSet, k: usize, all: bool) -> LitSet
+    requires { (length table.old ≡ n_names) × (k < n_names) }
     ensures { Completed table.old (set_of whole.words) k all table.new (set_of result.words) }
 {
     if whole.contains(2 * k) {
@@ -255,7 +190,7 @@ fn complete(table: &mut [u64], whole: LitSet, k: usize, all: bool) -> LitSet
         return whole;
     }
     let row = reached(table, whole, k);
-    put_row(table, k, row);
+    table[k] = row;
     with_name(whole, k)
 }
 
@@ -268,33 +203,25 @@ fn name_at_turn(names: usize, i: usize, down: bool) -> usize
 }
 
 // Goes through the names below a number, upwards or downwards, and makes rows whole.
-fn sweep(table: &mut [u64], whole: LitSet, names: usize, down: bool, all: bool) -> LitSet
-    requires { (length table.old ≡ table_size) × (names ≤ n_names) }
+fn sweep(table: &mut [LitSet; NAMES], whole: LitSet, names: usize, down: bool, all: bool) -> LitSet
+    requires { (length table.old ≡ n_names) × (names ≤ n_names) }
     ensures { SweptBy table.old (set_of whole.words) names down all table.new (set_of result.words) }
 {
     let mut found = whole;
-    let mut i: usize = 0;
-    while i < names {
+    for i in 0..names {
         let k = name_at_turn(names, i, down);
         found = complete(table, found, k, all);
-        i += 1;
     }
     found
 }
 
 // What each name below a number reaches. A row is soon found once those of the names in its bodies are whole, so the names are gone through upwards and
 // downwards for such rows before all others.
-fn reach_table<'a>(
-    heads: &'a [u16],
-    starts: &'a [u16],
-    entries: &'a [u16],
-    rules: usize,
-    names: usize,
-) -> [u64; TABLE]
+fn reach_table(book: &Book, names: usize) -> [LitSet; NAMES]
     requires { names ≤ n_names }
-    ensures { WholeRows (rules_in heads.now starts.now entries.now rules) names result }
+    ensures { WholeRows (rules_of book.now) names result }
 {
-    let mut table = direct(heads, starts, entries, rules);
+    let mut table = direct(book);
     let up = sweep(&mut table, LitSet::empty(), names, false, false);
     let down = sweep(&mut table, up, names, true, false);
     sweep(&mut table, down, names, false, true);
@@ -315,36 +242,33 @@ fn with_reaching(found: LitSet, more: LitSet, row: LitSet, s: LitSet) -> LitSet
 }
 
 // The names below a number whose rows have a name with both literals in a set.
-fn rows_having(table: &[u64], names: usize, s: LitSet) -> LitSet
-    requires { (length table.now ≡ table_size) × (names ≤ n_names) }
+fn rows_having(table: &[LitSet; NAMES], names: usize, s: LitSet) -> LitSet
+    requires { (length table.now ≡ n_names) × (names ≤ n_names) }
     ensures { RowsHaving table.now names (set_of s.words) (set_of result.words) }
 {
     let mut found = LitSet::empty();
-    let mut k: usize = 0;
-    while k < names {
+    for k in 0..names {
         let itself = with_name(LitSet::empty(), k);
         let row = row_at(table, k);
         found = with_reaching(found, itself, row, s);
-        k += 1;
     }
     found
 }
 
-// What `reaching_both` gives, by a table of what each name reaches. It is a function of its own, since the book is copied where its tables are lent.
-fn reaching_by_table(book: Book, s: LitSet) -> LitSet
-    ensures { ReachingBoth (rules_of book) (clamp max_names book.names) (set_of s.words) (set_of result.words) }
+// What `reaching_both` gives, by a table of what each name reaches.
+fn reaching_by_table(book: &Book, s: LitSet) -> LitSet
+    ensures { ReachingBoth (rules_of book.now) (clamp max_names book.now.names) (set_of s.words) (set_of result.words) }
 {
-    let rules = book.rule_count();
     let names = book.name_count();
-    let table = reach_table(&book.heads, &book.starts, &book.entries, rules, names);
+    let table = reach_table(book, names);
     rows_having(&table, names, s)
 }
 
 // ---- the next group
 
 // The names of a set that reach name k, from the lowest to the first that does not, with k itself.
-fn meet(table: &[u64], among: LitSet, k: usize) -> LitSet
-    requires { (length table.now ≡ table_size) × (k < n_names) }
+fn meet(table: &[LitSet; NAMES], among: LitSet, k: usize) -> LitSet
+    requires { (length table.now ≡ n_names) × (k < n_names) }
     ensures { Met table.now k (set_of among.words) (set_of result.words) }
 {
     let mut met = with_name(LitSet::empty(), k);
@@ -372,8 +296,13 @@ struct NextGroup {
 
 // The group that comes next, of those whose names are left. Of the names left that a name reaches all must be of its group. Names of a group that may not
 // come are passed over together, and noted in the row of a name they wait for: until that one is listed they need not be tried again.
-fn next_group(table: &[u64], left: LitSet, stuck: LitSet, watch: &mut [u64]) -> NextGroup
-    requires { (length table.now ≡ table_size) × (length watch.old ≡ table_size) }
+fn next_group(
+    table: &[LitSet; NAMES],
+    left: LitSet,
+    stuck: LitSet,
+    watch: &mut [LitSet; NAMES],
+) -> NextGroup
+    requires { (length table.now ≡ n_names) × (length watch.old ≡ n_names) }
     ensures { NextBy table.now (set_of left.words) watch.old (set_of stuck.words)
         watch.new (set_of result.stuck.words) (set_of result.group.words) }
 {
@@ -398,7 +327,7 @@ fn next_group(table: &[u64], left: LitSet, stuck: LitSet, watch: &mut [u64]) -> 
                         };
                     }
                     Some(j) => {
-                        add_set(watch, j, met);
+                        watch[j] = row_at(watch, j).union(met);
                         out = out.union(met);
                     }
                 }
@@ -408,8 +337,8 @@ fn next_group(table: &[u64], left: LitSet, stuck: LitSet, watch: &mut [u64]) -> 
 }
 
 // The names known to wait for a name that is left, once a group is listed: those without the names that wait for one of the group.
-fn release(watch: &[u64], stuck: LitSet, group: LitSet) -> LitSet
-    requires { length watch.now ≡ table_size }
+fn release(watch: &[LitSet; NAMES], stuck: LitSet, group: LitSet) -> LitSet
+    requires { length watch.now ≡ n_names }
     ensures { Released watch.now (set_of group.words) (set_of stuck.words) (set_of result.words) }
 {
     let mut out = stuck;
@@ -457,25 +386,19 @@ fn put_names(
     }
 }
 
-// The names below a number in working order, by the first rules in the tables.
-fn order_in<'a>(
-    heads: &'a [u16],
-    starts: &'a [u16],
-    entries: &'a [u16],
-    rules: usize,
-    names: usize,
-) -> Order
+// The names below a number in working order.
+fn order_in(book: &Book, names: usize) -> Order
     requires { names ≤ max_names }
-    ensures { result ≡ order_table (working_order (rules_in heads.now starts.now entries.now rules) names) }
+    ensures { result ≡ order_table (working_order (rules_of book.now) names) }
 {
-    let table = reach_table(heads, starts, entries, rules, names);
+    let table = reach_table(book, names);
     let mut name = [0u16; book::MAX_NAMES];
     let mut group = [0u16; book::MAX_NAMES];
     let mut left = names_below(names);
-    let mut watch = [0u64; TABLE];
+    let mut watch = [LitSet::empty(); NAMES];
     let mut stuck = LitSet::empty();
-    let mut at: usize = 0;
-    let mut groups: usize = 0;
+    let mut at = 0;
+    let mut groups = 0;
     loop {
         let next = next_group(&table, left, stuck, &mut watch);
         if next.group.equal(LitSet::empty()) {
