@@ -1,6 +1,6 @@
 -- The tables of a book: the index has its rules, and the places of the table of its working order are the names of the groups, one group behind another.
 use mathlib.Core.Path.{◌≡◌, ◌∙◌, ap}
-use Prim.Native.Nat.{ℕ, ◌-◌}
+use Prim.Native.Nat.{ℕ}
 use lib.ListN.{take}
 use Rattle.wfsx.specs.Sets.{Set}
 use Rattle.wfsx.specs.Groups.{working_order}

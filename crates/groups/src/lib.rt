@@ -10,31 +10,22 @@ ghost use Rattle.groups.specs.Whole.{WholeOf};
 ghost use Rattle.groups.specs.Parts.{RunsFit, Copied, Gathered, facts_for, used_in, UsedBelow, alike, Stepped, Laid, ByGroups};
 
 use book::Book;
-use fixpoint::Values;
+use fixpoint::{Numbered, Values};
+use index::Index;
 use litset::LitSet;
 
 // The model of a book and the facts put in.
-pub fn model_by_groups(book: Book, facts: LitSet) -> Values
-    ensures { WholeOf (program_of book (set_of facts.words)) result }
+pub fn model_by_groups(book: &Book, facts: LitSet) -> Values
+    ensures { WholeOf (program_of book.now (set_of facts.words)) result }
 {
     let index = index::index_of(&book.heads, book.rules);
     let names = book.name_count();
     let used = names_used(&index.starts, names, facts);
     let order = reach::order_below(book, used);
     let places = order.names;
-    let name = order.name;
-    let group = order.group;
-    let r = settle_groups(
-        &book.heads,
-        &book.starts,
-        &book.entries,
-        &index.starts,
-        &index.rules,
-        &name[..places],
-        &group[..places],
-        facts,
-    );
-    r
+    let name = &order.name[..places];
+    let group = &order.group[..places];
+    settle_groups(book, &index, name, group, facts)
 }
 
 // ---- the names that matter
@@ -53,14 +44,12 @@ fn is_used(first: &[u16], k: usize, facts: LitSet) -> bool
 fn names_used(first: &[u16], names: usize, facts: LitSet) -> usize
     ensures { UsedBelow first.now (set_of facts.words) result }
 {
-    let mut n = book::MAX_NAMES;
-    while names < n {
-        if is_used(first, n - 1, facts) {
-            return n;
+    for k in (names..book::MAX_NAMES).rev() {
+        if is_used(first, k, facts) {
+            return k + 1;
         }
-        n -= 1;
     }
-    n
+    names.min(book::MAX_NAMES)
 }
 
 // ---- the rules and facts of a group
@@ -69,7 +58,7 @@ fn names_used(first: &[u16], names: usize, facts: LitSet) -> usize
 fn first_literal(name: u16) -> usize
     ensures { (result ≡ 2 * name) × (result < 2 * 65536) }
 {
-    2 * (name as usize)
+    2 * usize::from(name)
 }
 
 // Puts the numbers from one place to another of a table into `numbers` from place `at` on. Answers with the place behind them.
@@ -77,14 +66,10 @@ fn copy_run(rules: &[u16], from: usize, end: usize, numbers: &mut [u16], at: usi
     requires { (end ≤ length rules.now) × (at + (end - from) ≤ length numbers.old) }
     ensures { Copied rules.now from end numbers.old at result numbers.new }
 {
-    let mut j = from;
-    let mut p = at;
-    while j < end {
-        numbers[p] = rules[j];
-        j += 1;
-        p += 1;
+    for j in from..end {
+        numbers[at + (j - from)] = rules[j];
     }
-    p
+    at + end.saturating_sub(from)
 }
 
 // Puts the numbers of the rules for some names into `numbers`. Answers how many there are.
@@ -92,14 +77,12 @@ fn gather<'a>(first: &'a [u16], rules: &'a [u16], names: &[u16], numbers: &mut [
     requires { RunsFit first.now rules.now names.now × (max_rules ≤ length numbers.old) }
     ensures { Gathered first.now rules.now names.now numbers.old result numbers.new }
 {
-    let mut at: usize = 0;
-    let mut i: usize = 0;
-    while i < names.len() {
-        let a = first_literal(names[i]);
+    let mut at = 0;
+    for name in names {
+        let a = first_literal(*name);
         let from = index::rules_start(first, a);
         let end = index::rules_start(first, a + 2);
         at = copy_run(rules, from, end, numbers, at);
-        i += 1;
     }
     at
 }
@@ -109,11 +92,9 @@ fn facts_for(names: &[u16], facts: LitSet) -> LitSet
     ensures { set_of result.words ≡ facts_for names.now (set_of facts.words) }
 {
     let mut literals = LitSet::empty();
-    let mut i: usize = 0;
-    while i < names.len() {
-        let a = first_literal(names[i]);
+    for name in names {
+        let a = first_literal(*name);
         literals = literals.insert(a).insert(a + 1);
-        i += 1;
     }
     facts.difference(facts.difference(literals))
 }
@@ -124,27 +105,18 @@ fn facts_for(names: &[u16], facts: LitSet) -> LitSet
 fn group_end(group: &[u16], p: usize) -> usize
     ensures { result ≡ p + alike (get_or group.now p 0) (drop p group.now) }
 {
-    let mut end = p;
-    while end < group.len() {
+    for end in p..group.len() {
         if group[end] != group[p] {
             return end;
         }
-        end += 1;
     }
-    end
+    p.max(group.len())
 }
 
 // A step with a group's rules and facts, if it has any: without them it has no values.
-fn settle_group<'a>(
-    heads: &'a [u16],
-    starts: &'a [u16],
-    entries: &'a [u16],
-    numbers: &'a [u16],
-    facts: LitSet,
-    before: Values,
-) -> Values
+fn settle_group(book: &Book, numbers: &[u16], facts: LitSet, before: Values) -> Values
     ensures { Stepped
-        (program (rules_numbered heads.now starts.now entries.now numbers.now) (set_of facts.words))
+        (program (rules_numbered book.now.heads book.now.starts book.now.entries numbers.now) (set_of facts.words))
         before result }
 {
     if numbers.len() == 0 {
@@ -152,22 +124,19 @@ fn settle_group<'a>(
             return before;
         }
     }
-    fixpoint::step(heads, starts, entries, numbers, facts, before)
+    let rules = Numbered {
+        heads: &book.heads,
+        starts: &book.starts,
+        entries: &book.entries,
+        numbers,
+    };
+    rules.step(facts, before)
 }
 
 // M and N, from nothing, with one group more in each turn. The numbers of a group's rules are put into one table, which the next group uses again.
-fn settle_groups<'a>(
-    heads: &'a [u16],
-    starts: &'a [u16],
-    entries: &'a [u16],
-    first: &'a [u16],
-    rules: &'a [u16],
-    name: &'a [u16],
-    group: &'a [u16],
-    facts: LitSet,
-) -> Values
-    requires { Laid heads.now starts.now entries.now first.now rules.now name.now group.now (set_of facts.words) }
-    ensures { ByGroups heads.now starts.now entries.now first.now rules.now
+fn settle_groups(book: &Book, index: &Index, name: &[u16], group: &[u16], facts: LitSet) -> Values
+    requires { Laid book.now.heads book.now.starts book.now.entries index.now.starts index.now.rules name.now group.now (set_of facts.words) }
+    ensures { ByGroups book.now.heads book.now.starts book.now.entries index.now.starts index.now.rules
         name.now group.now (set_of facts.words) result }
 {
     let mut numbers = [0u16; book::MAX_RULES];
@@ -175,12 +144,12 @@ fn settle_groups<'a>(
         truths: LitSet::empty(),
         nonfalse: LitSet::empty(),
     };
-    let mut p: usize = 0;
+    let mut p = 0;
     while p < name.len() {
         let end = group_end(group, p);
-        let count = gather(first, rules, &name[p..end], &mut numbers);
+        let count = gather(&index.starts, &index.rules, &name[p..end], &mut numbers);
         let own = facts_for(&name[p..end], facts);
-        v = settle_group(heads, starts, entries, &numbers[..count], own, v);
+        v = settle_group(book, &numbers[..count], own, v);
         p = end;
     }
     v
