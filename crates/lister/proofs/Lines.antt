@@ -16,8 +16,7 @@ use Rattle.book.specs.declared.Book.{Book}
 use Rattle.book.specs.Limits.{max_names, max_rules}
 use Rattle.book.proofs.Rows.{rows_none, rows_first, rows_step, rows_end}
 use Rattle.book.proofs.Counts.{clamp_most}
-use Rattle.litset.specs.declared.Clash.{Clash}
-use Rattle.litset.specs.declared.Clash.TheVariants.{None, Name}
+use Rattle.std.specs.Prelude.{Option, None, Some}
 use Rattle.scan.specs.Text.{comma, newline, max_length}
 use Rattle.book.proofs.Names.{names_count, name_most, name_short, rules_counted}
 use Rattle.lister.specs.Listing.{model_word, contradiction_word, refused_word, contradictory_word, verdict_word, digits, field, line, mark_word, name_line, name_lines, header_by, listing_by_sets, verdicts_by, words_by, listing_held, refusal_of}
@@ -66,13 +65,13 @@ module _ (text lengths : List ℕ) (c : Counts) where
   unfolding header_by line
   clear_is = rw (names_count text lengths c.names) refl
 
-  pub clash_is : (n : ℕ) → header_of text lengths c (Name n) ≡ field contradiction_word comma ++ (counts_to comma c ++ field (get_or names n []) newline)
+  pub clash_is : (n : ℕ) → header_of text lengths c (Some n) ≡ field contradiction_word comma ++ (counts_to comma c ++ field (get_or names n []) newline)
   unfolding header_by line
   clash_is n = rw (names_count text lengths c.names) (simp append_assoc)
 
 module _ (b : Book) (facts : LitSet) (m : Marks) (c : Counts) (ns : c.names ≡ clamp max_names b.names) (rs : c.rules ≡ clamp max_rules b.rules)
     (fs : c.facts ≡ length (members capacity (set_of facts.words))) (ks : c.rounds ≡ m.model.rounds) where
-  pub listing_parts : (k : Clash) → k ≡ clash_in (set_of m.model.truths.words)
+  pub listing_parts : (k : Option ℕ) → k ≡ clash_in (set_of m.model.truths.words)
       → listing_held b facts m ≡ header_of b.text b.lengths c k ++ name_lines (words_by m) 0 (names_in b.text b.lengths c.names)
   unfolding listing_by_sets
   listing_parts k e = rw (ns, rs, fs, ks, e, rules_counted b)
@@ -149,7 +148,7 @@ module _ (w : ℕ → List ℕ) (words : (A : ℕ) → length (w A) ≤ 13) wher
   lines_most f short k (suc n) h =
       rw (rows_first f k n) (omega (arith, length-append (name_line w k (f k)) (name_lines w (suc k) (rows f (suc k) n)), line_most k (f k) (omega arith) (short k), lines_most f short (suc k) n (omega arith)))
 
-header_most : (text lengths : List ℕ) (c : Counts) → Small c → (k : Clash) → length (header_of text lengths c k) ≤ max_length + 99
+header_most : (text lengths : List ℕ) (c : Counts) → Small c → (k : Option ℕ) → length (header_of text lengths c k) ≤ max_length + 99
 header_most text lengths c small None =
     omega (
       arith,
@@ -157,7 +156,7 @@ header_most text lengths c small None =
       length-append (field model_word comma) (counts_to newline c),
       counts_most newline c small,
     )
-header_most text lengths c small (Name k) =
+header_most text lengths c small (Some k) =
     let last = get_or (names_in text lengths c.names) k [] in
     omega (
       arith,

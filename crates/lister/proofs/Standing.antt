@@ -12,7 +12,7 @@ use Rattle.wfsx.specs.Rounds.{rounds}
 use Rattle.wfsx.specs.Reach.{name_of}
 use Rattle.wfsx.specs.ContradictoryNames.{contradictory_names}
 use Rattle.litset.specs.Words.{capacity, clash_in}
-use Rattle.litset.specs.declared.Clash.{Clash}
+use Rattle.std.specs.Prelude.{Option}
 use Rattle.book.specs.Book.{program}
 use Rattle.fixpoint.proofs.Published.{verdict_same}
 use Rattle.lister.specs.Listing.{digits, line, words_of, name_lines, header_by, listing_by, listing_by_sets, listing_of}
@@ -40,5 +40,5 @@ module _ (names : List (List ℕ)) (rules : List Rule) (facts T U C : Set) (k : 
   listing_stands t u c n =
       let P = program rules facts in
       ap₂ (λ (a b : List ℕ). a ++ b)
-      (ap₂ (λ (j : ℕ) (clash : Clash). header_by names (length rules) (length (members capacity facts)) j clash) n (ap clash_in t))
+      (ap₂ (λ (j : ℕ) (clash : Option ℕ). header_by names (length rules) (length (members capacity facts)) j clash) n (ap clash_in t))
       (lines_same _ (words_of P) 0 names (λ A h. rw (c A (omega arith), verdict_same P T U t u A) refl))

@@ -12,8 +12,7 @@ use Rattle.book.specs.declared.Book.{Book}
 use Rattle.book.specs.Book.{names_of, rules_of}
 use Rattle.fixpoint.specs.Result.{verdict_in}
 use Rattle.fixpoint.specs.declared.Model.{Model}
-use Rattle.litset.specs.declared.Clash.{Clash}
-use Rattle.litset.specs.declared.Clash.TheVariants.{None, Name}
+use Rattle.std.specs.Prelude.{Option, None, Some}
 use Rattle.scan.specs.Text.{comma, newline}
 use Rattle.lister.specs.declared.Marks.{Marks}
 
@@ -97,12 +96,12 @@ name_lines w k (name ∷ names) = name_line w k name ++ name_lines w (suc k) nam
 
 -- By the names, the counts of rules, of facts put in and of rounds, and the name that makes the lesson contradictory, if any. A number past the names
 -- stands for the empty name.
-unfoldable pub header_by : List (List ℕ) → ℕ → ℕ → ℕ → Clash → List ℕ
+unfoldable pub header_by : List (List ℕ) → ℕ → ℕ → ℕ → Option ℕ → List ℕ
 header_by names rules facts k None = line model_word (counts (length names) rules facts k)
-header_by names rules facts k (Name n) = line contradiction_word (counts (length names) rules facts k ++ (get_or names n [] ∷ []))
+header_by names rules facts k (Some n) = line contradiction_word (counts (length names) rules facts k ++ (get_or names n [] ∷ []))
 
 -- the header, and behind it the line of every name
-abbrev pub listing_by : List (List ℕ) → ℕ → ℕ → ℕ → (ℕ → List ℕ) → Clash → List ℕ
+abbrev pub listing_by : List (List ℕ) → ℕ → ℕ → ℕ → (ℕ → List ℕ) → Option ℕ → List ℕ
 listing_by names rules facts k w clash = header_by names rules facts k clash ++ name_lines w 0 names
 
 -- the listing of a lesson: a book's names and rules, and the facts put in

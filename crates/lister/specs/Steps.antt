@@ -1,7 +1,7 @@
 -- What the private functions of `lister` leave in a buffer (no public contract cites it).
 use Rattle.std.specs.Prelude.{◌≡◌, List, ◌++◌, ℕ, ◌+◌, ◌*◌, ◌≤◌, length}
 use Rattle.std.proofs.lemmas.List.Edits.{sets}
-use Rattle.litset.specs.declared.Clash.{Clash}
+use Rattle.std.specs.Prelude.{Option}
 use Rattle.book.specs.Book.{names_in}
 use Rattle.scan.specs.Text.{comma, newline}
 use Rattle.lister.specs.Listing.{digits, field, header_by}
@@ -22,7 +22,7 @@ counts_to stop c =
     field (digits c.names) comma ++ (field (digits c.rules) comma ++ (field (digits c.facts) comma ++ field (digits c.rounds) stop))
 
 -- the header by the counts that it has
-abbrev pub header_of : (text lengths : List ℕ) → Counts → Clash → List ℕ
+abbrev pub header_of : (text lengths : List ℕ) → Counts → Option ℕ → List ℕ
 header_of text lengths c clash = header_by (names_in text lengths c.names) c.rules c.facts c.rounds clash
 
 -- the verdict fields of name k as the end of its line

@@ -13,13 +13,6 @@ use book::Book;
 use fixpoint::{Model, Verdict};
 use litset::LitSet;
 
-// What became of a buffer: the listing's length, or that the buffer is shorter than the listing.
-#[derive(Clone, Copy)]
-pub enum Written {
-    Length(usize),
-    Short,
-}
-
 // What a listing shows of a lesson: its model, and the literals whose verdicts 24 would refuse.
 #[repr(C)]
 #[derive(Clone, Copy)]
@@ -79,16 +72,10 @@ fn put_verdict(t: &mut [u8], at: usize, model: Model, l: usize, stop: u8) -> usi
     requires { Room (field (verdict_word (verdicts_by model l)) stop) at }
     ensures { Put (field (verdict_word (verdicts_by model l)) stop) at t.old t.new result }
 {
-    match fixpoint::verdict_of(model, l) {
-        Verdict::True => {
-            return put_word(t, at, b"true", stop);
-        }
-        Verdict::False => {
-            return put_word(t, at, b"false", stop);
-        }
-        Verdict::Undefined => {
-            return put_word(t, at, b"undefined", stop);
-        }
+    match model.verdict_of(l) {
+        Verdict::True => put_word(t, at, b"true", stop),
+        Verdict::False => put_word(t, at, b"false", stop),
+        Verdict::Undefined => put_word(t, at, b"undefined", stop),
     }
 }
 
@@ -126,91 +113,62 @@ fn put_verdicts(t: &mut [u8], at: usize, marks: Marks, k: usize) -> usize
 }
 
 // The line of name k.
-fn put_name_line<'a>(
-    t: &mut [u8],
-    at: usize,
-    text: &'a [u8],
-    lengths: &'a [u8],
-    k: usize,
-    marks: Marks,
-) -> usize
-    requires { Room (name_line (words_by marks) k (name_at text.now lengths.now k)) at × (k < max_names) }
-    ensures { Put (name_line (words_by marks) k (name_at text.now lengths.now k))
+fn put_name_line(t: &mut [u8], at: usize, book: &Book, k: usize, marks: Marks) -> usize
+    requires { Room (name_line (words_by marks) k (name_at book.now.text book.now.lengths k)) at × (k < max_names) }
+    ensures { Put (name_line (words_by marks) k (name_at book.now.text book.now.lengths k))
         at t.old t.new result }
 {
     let p = put_number(t, at, k, b',');
-    let q = put_word(t, p, book::name_at(text, lengths, k), b',');
+    let q = put_word(t, p, book.name_at(k), b',');
     put_verdicts(t, q, marks, k)
 }
 
 // The lines of the first `count` names.
-fn put_name_lines<'a>(
-    t: &mut [u8],
-    at: usize,
-    text: &'a [u8],
-    lengths: &'a [u8],
-    count: usize,
-    marks: Marks,
-) -> usize
-    requires { Room (name_lines (words_by marks) 0 (names_in text.now lengths.now count)) at × (count ≤ max_names) }
-    ensures { Put (name_lines (words_by marks) 0 (names_in text.now lengths.now count))
+fn put_name_lines(t: &mut [u8], at: usize, book: &Book, count: usize, marks: Marks) -> usize
+    requires { Room (name_lines (words_by marks) 0 (names_in book.now.text book.now.lengths count)) at × (count ≤ max_names) }
+    ensures { Put (name_lines (words_by marks) 0 (names_in book.now.text book.now.lengths count))
         at t.old t.new result }
 {
     let mut p = at;
-    let mut k = 0;
-    while k < count {
-        p = put_name_line(t, p, text, lengths, k, marks);
-        k += 1;
+    for k in 0..count {
+        p = put_name_line(t, p, book, k, marks);
     }
     p
 }
 
 // Name k as the end of a line; a number past the names stands for the empty name.
-fn put_name_end<'a>(
-    t: &mut [u8],
-    at: usize,
-    text: &'a [u8],
-    lengths: &'a [u8],
-    count: usize,
-    k: usize,
-) -> usize
-    requires { Room (field (get_or (names_in text.now lengths.now count) k []) newline) at }
-    ensures { Put (field (get_or (names_in text.now lengths.now count) k []) newline)
+fn put_name_end(t: &mut [u8], at: usize, book: &Book, count: usize, k: usize) -> usize
+    requires { Room (field (get_or (names_in book.now.text book.now.lengths count) k []) newline) at }
+    ensures { Put (field (get_or (names_in book.now.text book.now.lengths count) k []) newline)
         at t.old t.new result }
 {
     if k < count {
-        return put_word(t, at, book::name_at(text, lengths, k), b'\n');
+        return put_word(t, at, book.name_at(k), b'\n');
     }
-    put_word(t, at, &text[..0], b'\n')
+    put_word(t, at, &[], b'\n')
 }
 
 // ---- the listing, from the start of a buffer on
 
-fn put_header<'a>(
-    t: &mut [u8],
-    text: &'a [u8],
-    lengths: &'a [u8],
-    counts: Counts,
-    clash: Clash,
-) -> usize
-    requires { Room (header_of text.now lengths.now counts clash) 0 }
-    ensures { Put (header_of text.now lengths.now counts clash) 0 t.old t.new result }
+fn put_header(t: &mut [u8], book: &Book, counts: Counts, clash: Option<usize>) -> usize
+    requires { Room (header_of book.now.text book.now.lengths counts clash) 0 }
+    ensures { Put (header_of book.now.text book.now.lengths counts clash) 0 t.old t.new result }
 {
     match clash {
         None => {
             let p = put_word(t, 0, b"model", b',');
-            return put_counts(t, p, counts, b'\n');
+            put_counts(t, p, counts, b'\n')
         }
         Some(k) => {
             let p = put_word(t, 0, b"contradiction", b',');
             let q = put_counts(t, p, counts, b',');
-            return put_name_end(t, q, text, lengths, counts.names, k);
+            put_name_end(t, q, book, counts.names, k)
         }
     }
 }
 
-fn put_listing(t: &mut [u8], book: Book, facts: LitSet, marks: Marks) -> usize
-    ensures { Put (listing_held book facts marks) 0 t.old t.new result }
+fn put_listing(t: &mut [u8], book: &Book, facts: LitSet, marks: Marks) -> usize
+    ensures { Put (listing_held book.now facts marks) 0 t.old t.new result }
 {
     let names = book.name_count();
     let counts = Counts {
@@ -220,8 +178,8 @@ fn put_listing(t: &mut [u8], book: Book, facts: LitSet, marks: Marks) -> usize
         rounds: marks.model.rounds,
     };
     let clash = marks.model.truths.lowest_both();
-    let p = put_header(t, &book.text, &book.lengths, counts, clash);
-    put_name_lines(t, p, &book.text, &book.lengths, names, marks)
+    let p = put_header(t, book, counts, clash);
+    put_name_lines(t, p, book, names, marks)
 }
 
 fn put_refusal(t: &mut [u8], number: u8, line: usize) -> usize
@@ -232,30 +190,30 @@ fn put_refusal(t: &mut [u8], number: u8, line: usize) -> usize
     put_number(t, q, line, b'\n')
 }
 
-// ---- the calls: a buffer of one byte tells the length, since the place behind the bytes does not depend on how many fit
+// ---- the calls: their answer is how many bytes were written, or none where the buffer is shorter than them; a buffer of one byte tells the length, since the place behind the bytes does not depend on how many fit
 
 // The listing of a book, the facts put in and the marks of them.
-pub fn write(book: Book, facts: LitSet, marks: Marks, buffer: &mut [u8]) -> Written
-    ensures { Writes (listing_held book facts marks) buffer.old result buffer.new }
+pub fn write(book: &Book, facts: LitSet, marks: Marks, buffer: &mut [u8]) -> Option<usize>
+    ensures { Writes (listing_held book.now facts marks) buffer.old result buffer.new }
 {
     let mut tried = [0u8; 1];
     let length = put_listing(&mut tried, book, facts, marks);
     if buffer.len() < length {
-        return Written::Short;
+        return None;
     }
     put_listing(buffer, book, facts, marks);
-    Written::Length(length)
+    Some(length)
 }
 
 // `refused,NUMBER,LINE`.
-pub fn write_refusal(number: u8, line: usize, buffer: &mut [u8]) -> Written
+pub fn write_refusal(number: u8, line: usize, buffer: &mut [u8]) -> Option<usize>
     ensures { Writes (refusal_of number line) buffer.old result buffer.new }
 {
     let mut tried = [0u8; 1];
     let n = put_refusal(&mut tried, number, line);
     if buffer.len() < n {
-        return Written::Short;
+        return None;
     }
     put_refusal(buffer, number, line);
-    Written::Length(n)
+    Some(n)
 }
