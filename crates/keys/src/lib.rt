@@ -21,6 +21,7 @@ fn hint_place(key: Key) -> usize
 
 // The names that are declared: the keys in the order of their numbers, and the hints. Whatever the hints say, the names that they lead to are compared by
 // their keys.
+#[derive(Clone, Copy)]
 pub struct Names {
     keys: [Key; book::MAX_NAMES],
     hints: [u8; MAX_HINTS],
