@@ -3,6 +3,7 @@ use mathlib.Core.Path.{◌≡◌, refl, ap, ◌∙◌, sym}
 use mathlib.Core.Bool.{Bool, true, false, cond, not, or-true, not-not, true≢false}
 use mathlib.Core.List.{List, ◌∷◌}
 use Prim.Native.Nat.{ℕ, zero, suc, ◌+◌, ◌-◌, ◌*◌, ◌≤◌, ◌<◌, zero-le}
+use native.Mathlib.Nat.{sub-zero}
 use native.Mathlib.Omega.{arith}
 use lib.ListN.{length, take, drop}
 use lib.Dec.{eqb}
@@ -44,23 +45,22 @@ module _ (f : List ℕ → Bool) (l : List ℕ) (p : ℕ) where
   fields_end h = ap (all_fields f) (rest_none comma l p h)
 
 -- the first field of a line ends at e
-pub first_field : (line : List ℕ) (e : ℕ) → e ≡ 0 + len_to comma (drop 0 line) → fields line ≡ take (e - 0) (drop 0 line) ∷ rest comma line (e + 1)
-first_field line e q = sym (rest_here comma line 0 zero-le) ∙ rest_step comma line 0 e zero-le q
+pub first_field : (line : List ℕ) (e : ℕ) → e ≡ 0 + len_to comma (drop 0 line) → fields line ≡ take e line ∷ rest comma line (e + 1)
+first_field line e q =
+    sym (rest_here comma line 0 zero-le) ∙ rest_step comma line 0 e zero-le q ∙ ap (λ (n : ℕ). take n line ∷ rest comma line (e + 1)) (sub-zero e)
 
 -- ---- the form of a rule, by its head and its body
 
 module _ (h : List ℕ) (ls : List (List ℕ)) where
-  pub head_malformed : is_literal EitherCase h ≡ false → false ≡ not (malformed EitherCase RuleWord (h ∷ ls))
-  unfolding malformed all_fields
-  head_malformed e = rw (e, or-true (has_tilde h))
-
   pub head_tilde_lem : has_tilde h ≡ true → false ≡ not (malformed EitherCase RuleWord (h ∷ ls))
   unfolding malformed
   head_tilde_lem e = rw e
 
-  pub head_formed : is_literal EitherCase h ≡ true → has_tilde h ≡ false → all_fields (is_literal EitherCase) ls ≡ not (malformed EitherCase RuleWord (h ∷ ls))
-  unfolding malformed all_fields
-  head_formed literal plain = rw (literal, plain, not-not (all_fields (is_literal EitherCase) ls))
+-- a rule whose head has no `~` is well formed where all fields are
+pub head_plain : (fs : List (List ℕ)) (h : List ℕ) (ls : List (List ℕ)) → fs ≡ h ∷ ls → has_tilde h ≡ false
+    → all_fields (is_literal EitherCase) fs ≡ not (malformed EitherCase RuleWord fs)
+unfolding malformed
+head_plain fs h ls part plain = rw (part, plain, not-not (all_fields (is_literal EitherCase) (h ∷ ls))) refl
 
 -- ---- a name looked up
 

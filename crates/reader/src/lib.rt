@@ -160,39 +160,30 @@ fn name_line<T: Tables>(
 
 // ---- a rule's line
 
-// Whether every field from place `from` on reads as a literal.
-fn all_literals(line: &[u8], from: usize) -> bool
-    requires { from ≤ length line.now + 1 }
-    ensures { result ≡ all_fields (is_literal EitherCase) (rest comma line.now from) }
+// Whether a field reads as a literal.
+fn is_literal(f: &[u8]) -> bool
+    ensures { result ≡ is_literal EitherCase f.now }
 {
-    let mut p = from;
-    while p <= line.len() {
-        let e = scan::end_of(line, p, b',');
-        let Form::Literal {
+    match scan::form_of(f) {
+        Form::Literal {
             tildes: _,
             minuses: _,
-        } = scan::form_of(&line[p..e])
-        else {
-            return false;
-        };
-        p = e + 1;
+        } => true,
+        Form::Malformed => false,
     }
-    true
 }
 
-// Whether the head and every field behind it reads as a literal, and the head has no `~`.
+// Whether every field reads as a literal, and the first, which is the head, has no `~`.
 fn well_formed(rule: &[u8]) -> bool
     ensures { result ≡ not (malformed EitherCase RuleWord (fields rule.now)) }
 {
     let e = scan::end_of(rule, 0, b',');
-    let Form::Literal { tildes, minuses: _ } = scan::form_of(&rule[0..e]) else {
-        return false;
-    };
+    let tildes = scan::marks_of(&rule[..e]).tildes;
     let marked = tildes != 0;
     if marked {
         return false;
     }
-    all_literals(rule, e + 1)
+    rule.split(|b| *b == b',').all(|f| is_literal(f))
 }
 
 // The literal of a field whose name is declared, and how many `~` stand before it.
@@ -264,7 +255,7 @@ fn rule_line<T: Tables>(
         return Err(Fault::FormWrong);
     }
     let e = scan::end_of(rule, 0, b',');
-    let Some(head) = known_of(names, t.names, &rule[0..e]) else {
+    let Some(head) = known_of(names, t.names, &rule[..e]) else {
         return Err(Fault::NameMissing);
     };
     if !all_known(names, t.names, tables, t.used, rule, e + 1) {
@@ -316,7 +307,7 @@ fn judge<T: Tables>(
     }
     let e = scan::end_of(line, 0, b',');
     let n = scan::pieces(line, b',');
-    let word = scan::word_of(&line[0..e]);
+    let word = scan::word_of(&line[..e]);
     if !right_count(word, n) {
         return Err(Fault::FieldsWrong);
     }
@@ -410,7 +401,7 @@ fn read_file<T: Tables>(file: &[u8], tables: &mut T) -> Result<Counts, Refusal>
             line: 0,
         });
     }
-    read_lines(&file[0..n - 1], tables)
+    read_lines(&file[..n - 1], tables)
 }
 
 // ---- loading

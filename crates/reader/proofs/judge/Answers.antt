@@ -26,7 +26,7 @@ use Rattle.reader.proofs.judge.Goals as goal
 module _ (line : List ℕ) (e : ℕ) (q : e ≡ 0 + len_to comma (drop 0 line)) where
   -- the first field, the fields behind it, and what stands behind it
   abbrev first : List ℕ
-  first = take (e - 0) (drop 0 line)
+  first = take e line
 
   abbrev others : List (List ℕ)
   others = rest comma line (e + 1)

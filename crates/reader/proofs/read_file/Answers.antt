@@ -1,7 +1,6 @@
 -- `read_file`: each test of the whole file that fails settles its number, in the definition's order; where there are no bytes nothing is left, else the lines.
 use mathlib.Core.Path.{sym, ap, ◌∙◌}
 use Prim.Native.Nat.{ℕ, ◌-◌}
-use native.Mathlib.Nat.{sub-zero}
 use native.Mathlib.Omega.{arith}
 use lib.ListN.{length, take}
 use Rattle.scan.specs.Text.{newline, split}
@@ -28,6 +27,5 @@ returns-then-file-n-ne10 g c =
 pub returns : goal.returns
 returns g c =
     let file = c.args.file.now in
-    let lines = file_lines file (omega (arith, c.if-long.false)) (sym c.all_text.ensures ∙ c.if-not-all_text.false) c.if-bare.false c.if-file-n-ne10.false
-    ∙ ap (λ (n : ℕ). read_lines EitherCase nothing_yet 1 (split newline (take n file))) (sym (sub-zero (length file - 1))) in
+    let lines = file_lines file (omega (arith, c.if-long.false)) (sym c.all_text.ensures ∙ c.if-not-all_text.false) c.if-bare.false c.if-file-n-ne10.false in
     rw lines c.read_lines.ensures

@@ -22,7 +22,7 @@ use Rattle.reader.proofs.rule_line.Goals.{then-many-via-then-many, then-many-via
 
 -- the head's field, and the fields behind it, where the head ends at e
 abbrev head-field : List ℕ → ℕ → List ℕ
-head-field rule e = take (e - 0) (drop 0 rule)
+head-field rule e = take e rule
 
 abbrev others : List ℕ → ℕ → List (List ℕ)
 others rule e = rest comma rule (e + 1)
