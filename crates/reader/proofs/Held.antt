@@ -25,7 +25,6 @@ use Rattle.keys.specs.declared.Names.{Names}
 use Rattle.keys.proofs.Declared.{keyed_none}
 use Rattle.reader.specs.File.{Outcome}
 use Rattle.reader.specs.Loading.{WasAccepted}
-use Rattle.reader.specs.Sizing.{WasSized}
 use Rattle.reader.specs.Tables.{Lists, lists_of, with_name, with_entries, with_rule}
 use Rattle.reader.specs.Steps.{no_counts, Counted, Holds, Stored, field_code, FineFile}
 use Rattle.reader.proofs.Answers.{nothing_counted}
@@ -167,9 +166,3 @@ book_held {d = d} c b s =
 -- what the tables of an accepted file give is its book
 pub loaded_book : {o : Outcome} {t : Counts} (b : Book) → FineFile o t (lists_of no_book) (lists_of b) → WasAccepted o (record b { names = t.names; rules = t.rules })
 loaded_book b fine = record { names = fine.content.names; rules = fine.content.rules; outcome = fine.outcome; book_is = book_held fine.counted b (fine.stored nothing_stored) }
-
--- the counts of an accepted file are its figures
-pub sized_counts : {o : Outcome} {t : Counts} {l l' : Lists} → FineFile o t l l' → WasSized o (record { names = t.names; rules = t.rules; body_literals = t.used })
-sized_counts fine =
-    let c = fine.counted in
-    record { names = fine.content.names; rules = fine.content.rules; outcome = fine.outcome; sizes_are = rw (c.names_are, c.rules_are, c.used_are) refl }

@@ -1,7 +1,7 @@
 -- The library's words for parts of a list and for a test of each element, beside those of the definitions: the pieces between the bytes `stop`, and a test of
 -- every field.
 use mathlib.Core.Path.{◌≡◌, refl, ap}
-use mathlib.Core.Bool.{Bool, cond, ◌&&◌}
+use mathlib.Core.Bool.{Bool, ◌&&◌}
 use mathlib.Core.List.{List, [], ◌∷◌}
 use Prim.Native.Nat.{ℕ}
 use lib.Dec.{eqb}

@@ -226,6 +226,7 @@ fn all_known<T: Tables>(
 {
     let mut k = at;
     let mut p = from;
+    // A `for` over `split` was tried: in a function with a type parameter the proof of a loop over an iterator with a closure does not close.
     while p <= line.len() {
         let e = scan::end_of(line, p, b',');
         let Some(known) = known_of(names, count, &line[p..e]) else {
@@ -279,6 +280,7 @@ fn rule_line<T: Tables>(
 // ---- a line, the lines, the file
 
 // Whether a line whose first field is the word may have n fields.
+#[tactic(auto, unfolding(crate::specs::File::wrong_fields))]
 fn right_count(word: Word, n: usize) -> bool
     ensures { (others : List (List ℕ)) → n ≡ length others + 1 → result ≡ not (wrong_fields word others) }
 {
@@ -344,6 +346,7 @@ fn read_lines<T: Tables>(b: &[u8], tables: &mut T) -> Result<Counts, Refusal>
     let mut t = none_yet();
     let mut at = 0;
     let mut number = 1;
+    // A `for` over `split` was tried, as in `all_known`.
     while at <= b.len() {
         let e = scan::end_of(b, at, b'\n');
         match judge(t, &mut names, tables, &b[at..e]) {

@@ -1,11 +1,7 @@
 -- `read_file`: each test of the whole file that fails settles its number, in the definition's order; where there are no bytes nothing is left, else the lines.
-use mathlib.Core.Path.{sym, ap, ◌∙◌}
-use Prim.Native.Nat.{ℕ, ◌-◌}
+use mathlib.Core.Path.{sym, ◌∙◌}
 use native.Mathlib.Omega.{arith}
-use lib.ListN.{length, take}
-use Rattle.scan.specs.Text.{newline, split}
 use Rattle.scan.specs.declared.Alphabet.TheVariants.{EitherCase}
-use Rattle.reader.specs.File.{nothing_yet, read_lines}
 use Rattle.reader.proofs.Answers.{nothing_read}
 use Rattle.reader.proofs.NoBytes.{no_bytes}
 use Rattle.reader.proofs.Whole.{file_long, file_bytes, file_unended, file_lines}
