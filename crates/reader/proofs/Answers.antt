@@ -3,7 +3,7 @@ use mathlib.Core.Path.{◌≡◌, refl, sym, ap, ◌∙◌, subst}
 use mathlib.Core.List.{List, [], ◌∷◌}
 use Prim.Native.Nat.{ℕ, zero-le}
 use native.Mathlib.Omega.{arith}
-use Rattle.std.proofs.Common.{Result, Ok, Err}
+use Rattle.std.proofs.Common.{Result, Ok, Err, MatchResult, IsErrAnd}
 use Rattle.scan.specs.Text.{word_of}
 use Rattle.scan.specs.declared.Word.{Word}
 use Rattle.scan.specs.declared.Word.TheVariants.{End}
@@ -54,3 +54,24 @@ nothing_counted =
 -- a file that says nothing leaves the tables as they are
 pub nothing_read : {o : Outcome} {t : Counts} {l : Lists} → t ≡ no_counts → o ≡ accepted [] [] → FileRead o (Ok t) l l
 nothing_read e q = record { content = nothing_yet; outcome = q; counted = rw e nothing_counted; stored = λ s. s }
+
+-- ---- an error that is made another: the answer before it
+
+module _ {T E F : Type 0} (Q : E → F → Type 0) where
+  value_of : T → Result T F → T
+  value_of d (Ok x) = x
+  value_of d (Err y) = d
+
+  pub same_ok : (j : Result T E) {m : Result T F} → MatchResult j (λ x. m ≡ Ok x) (λ e. IsErrAnd m (Q e)) → (u : T) → m ≡ Ok u → j ≡ Ok u
+  unfolding value_of
+  same_ok (Ok x) h u e = ap Ok (ap (value_of x) (sym h ∙ e))
+  same_ok (Err x) h u e = absurd (subst (λ (m : Result T F). IsErrAnd m (Q x)) e h)
+
+  Failed : Result T F → Type 0
+  Failed (Ok x) = ⊥
+  Failed (Err y) = Unit {0}
+
+  pub made_err : (j : Result T E) {m : Result T F} → MatchResult j (λ x. m ≡ Ok x) (λ e. IsErrAnd m (Q e)) → (r : F) → m ≡ Err r → (x : E) × (j ≡ Err x) × Q x r
+  unfolding Failed
+  made_err (Ok x) h r e = absurd (subst Failed (sym e ∙ h) tt)
+  made_err (Err x) h r e = (x, refl, subst (λ (m : Result T F). IsErrAnd m (Q x)) e h)

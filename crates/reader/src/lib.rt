@@ -22,18 +22,18 @@ const MAX_BYTES: usize = 60000;
 
 // ---- refusals
 
-// What is wrong with a file: the conditions of refusals 1 to 9 (specs/Conditions.antt).
+// What is wrong with a file: the conditions of refusals 1 to 9 (specs/Conditions.antt), with their numbers.
 #[derive(Clone, Copy, Debug, PartialEq, Eq)]
 pub enum Fault {
-    TooLong,
-    StrangeByte,
-    LastLineOpen,
-    FieldsWrong,
-    FormWrong,
-    NameTaken,
-    NameMissing,
-    TableFull,
-    EndNotLast,
+    TooLong = 1,
+    StrangeByte = 2,
+    LastLineOpen = 3,
+    FieldsWrong = 4,
+    FormWrong = 5,
+    NameTaken = 6,
+    NameMissing = 7,
+    TableFull = 8,
+    EndNotLast = 9,
 }
 
 impl Fault {
@@ -41,17 +41,7 @@ impl Fault {
     pub fn number(self) -> u8
         ensures { result ≡ number_of self }
     {
-        match self {
-            Fault::TooLong => 1,
-            Fault::StrangeByte => 2,
-            Fault::LastLineOpen => 3,
-            Fault::FieldsWrong => 4,
-            Fault::FormWrong => 5,
-            Fault::NameTaken => 6,
-            Fault::NameMissing => 7,
-            Fault::TableFull => 8,
-            Fault::EndNotLast => 9,
-        }
+        self as u8
     }
 }
 
@@ -349,17 +339,10 @@ fn read_lines<T: Tables>(b: &[u8], tables: &mut T) -> Result<Counts, Refusal>
     // A `for` over `split` was tried, as in `all_known`.
     while at <= b.len() {
         let e = scan::end_of(b, at, b'\n');
-        match judge(t, &mut names, tables, &b[at..e]) {
-            Ok(u) => {
-                t = u;
-            }
-            Err(fault) => {
-                return Err(Refusal {
-                    fault,
-                    line: number,
-                });
-            }
-        }
+        t = judge(t, &mut names, tables, &b[at..e]).map_err(|fault| Refusal {
+            fault,
+            line: number,
+        })?;
         at = e + 1;
         number += 1;
     }

@@ -33,7 +33,8 @@ pub returns : goal.returns
 returns c =
     let rule = c.args.rule.now in
     let e = c.end_of-e.result in
-    let plain = ap (λ (n : ℕ). eqb n 1) (sym c.marks_of-tildes.ensures.0 ∙ c.if-marked.false) in
+    let none : c.marks_of-tildes.result.tildes ≡ 0 = omega (arith, c.if-marked.false) in
+    let plain = ap (λ (n : ℕ). eqb n 1) (sym c.marks_of-tildes.ensures.0 ∙ none) in
     all_from_yields_List (is_literal EitherCase) _ _ _ c.all.ensures.ran
     (YieldsList-from_slice_split _ (λ b. eqb b 44) rule c.split.ensures.rest c.split.ensures.done c.split.ensures.closure (λ x b q k. search (rules, tests)))
     (λ x b q k. search (rules, tests))
