@@ -16,6 +16,7 @@ fn hint_place(key: Key) -> usize
     ensures place { result ≡ hint_place key }
     ensures room { result < max_hints }
 {
+    // `as` loses nothing, and `try_from` would bring an error that cannot come.
     ((key.first ^ key.second) % MAX_HINTS as u64) as usize
 }
 
@@ -67,6 +68,7 @@ impl Names {
     {
         if k < book::MAX_NAMES {
             self.keys[k] = key;
+            // As in `hint_place`, `as` loses nothing.
             self.hints[hint_place(key)] = k as u8;
         }
     }

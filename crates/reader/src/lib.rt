@@ -63,7 +63,7 @@ trait Tables {
         requires { (k < max_names) × (length name.now ≤ max_length) }
         ensures { lists self.new ≡ with_name (lists self.old) k name.now };
 
-    // What stands in place j of the bodies: twice a literal, and one more where `not` stands before it.
+    // What stands in place j of the bodies: twice a literal, and one more where `not` stands before it. Past the end of a table it is left out.
     fn put_entry(&mut self, j: usize, entry: u16)
         ensures { lists self.new ≡ with_entry (lists self.old) j entry };
 
@@ -78,7 +78,8 @@ impl Tables for Book {
 
     fn put_name(&mut self, k: usize, name: &[u8]) {
         store::put_all(&mut self.text, scan::MAX_LENGTH * k, name);
-        store::put8(&mut self.lengths, k, name.len() as u8);
+        // `as` loses nothing, and `try_from` would bring an error that cannot come.
+        self.lengths[k] = name.len() as u8;
     }
 
     fn put_entry(&mut self, j: usize, entry: u16) {
@@ -86,8 +87,8 @@ impl Tables for Book {
     }
 
     fn put_rule(&mut self, r: usize, head: u16, end: u16) {
-        store::put16(&mut self.heads, r, head);
-        store::put16(&mut self.starts, r + 1, end);
+        self.heads[r] = head;
+        self.starts[r + 1] = end;
     }
 }
 
@@ -107,7 +108,8 @@ impl Tables for Unstored {
 
 // ---- a name's line
 
-// How much has been read: names, rules, body literals, and whether `end` came.
+// How much has been read: names, rules, body literals, and whether `end` came. That it fits the tables is required of it by three functions (`Fits`): as a
+// ghost field that would be no plainer, since a struct with one has no `..t`, and functions whose clauses name it stand in another file.
 #[derive(Clone, Copy)]
 struct Counts {
     names: usize,
@@ -222,6 +224,7 @@ fn all_known<T: Tables>(
         let Some(known) = known_of(names, count, &line[p..e]) else {
             return false;
         };
+        // As in `put_name`, `as` loses nothing.
         tables.put_entry(k, (2 * known.literal + known.tildes) as u16);
         k += 1;
         p = e + 1;
@@ -259,6 +262,7 @@ fn rule_line<T: Tables>(
     if many || long {
         return Err(Fault::TableFull);
     }
+    // As in `put_name`, `as` loses nothing.
     tables.put_rule(rules, head.literal as u16, end as u16);
     Ok(Counts {
         rules: rules + 1,
