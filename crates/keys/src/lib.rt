@@ -44,7 +44,8 @@ impl Names {
         }
     }
 
-    // The number of the name with the key among the first `count`.
+    // The number of the name with the key among the first `count`. The count is no field: it stands with the reader's other counts, which a line alters
+    // together.
     pub fn find(&self, count: usize, key: Key) -> Found
         ensures { LookedUp self.now count key result }
     {

@@ -56,6 +56,7 @@ pub struct Refusal {
 
 // Where the names and rules of a file go.
 trait Tables {
+    // What they hold.
     ghost lists: { Self → Lists };
 
     // Name k.
@@ -218,7 +219,8 @@ fn all_known<T: Tables>(
 {
     let mut k = at;
     let mut p = from;
-    // A `for` over `split` was tried: in a function with a type parameter the proof of a loop over an iterator with a closure does not close.
+    // A place is moved by hand: a `for` over `split` was tried, and in a function with a type parameter the proof of a loop over an iterator with a closure
+    // does not close.
     while p <= line.len() {
         let e = scan::end_of(line, p, b',');
         let Some(known) = known_of(names, count, &line[p..e]) else {
@@ -340,7 +342,7 @@ fn read_lines<T: Tables>(b: &[u8], tables: &mut T) -> Result<Counts, Refusal>
     let mut t = none_yet();
     let mut at = 0;
     let mut number = 1;
-    // A `for` over `split` was tried, as in `all_known`.
+    // A place is moved by hand, as in `all_known`.
     while at <= b.len() {
         let e = scan::end_of(b, at, b'\n');
         t = judge(t, &mut names, tables, &b[at..e]).map_err(|fault| Refusal {
