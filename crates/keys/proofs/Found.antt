@@ -3,58 +3,77 @@
 use mathlib.Core.Path.{◌≡◌, sym, ap, ◌∙◌}
 use mathlib.Core.Bool.{true, false}
 use mathlib.Core.List.{List, [], ◌∷◌}
-use Prim.Native.Nat.{ℕ, ◌+◌, ◌*◌, ◌≤◌, ◌<◌}
+use Prim.Native.Nat.{ℕ, suc, min, ◌≤◌, ◌<◌}
 use native.Mathlib.Omega.{arith}
-use native.Mathlib.Numerals.{add-one}
-use lib.ListN.{length, get_or, drop, drop_of_length-le}
-use lib.Seq.{drop-cons}
+use lib.ListN.{length, get_or, take}
+use Rattle.std.proofs.Common.{get_or-take, length-take}
 use Rattle.scan.specs.Text.{same_name}
 use Rattle.scan.specs.Keys.{same_key}
 use Rattle.scan.specs.declared.Alphabet.TheVariants.{EitherCase}
 use Rattle.scan.specs.declared.Key.{Key}
 use Rattle.scan.proofs.Names.{same_decides}
 use Rattle.scan.proofs.Keys.{keys_tell}
+use Rattle.book.specs.Limits.{max_names}
 use Rattle.book.specs.Book.{find_from, find}
 use Rattle.book.specs.declared.Found.TheVariants.{Nothing, At}
-use Rattle.book.proofs.Lookup.{find_none, find_first, find_later, find_same}
-use Rattle.keys.specs.Keyed.{key_at, KeyFor, Keyed}
+use Rattle.book.proofs.Lookup.{find_none, find_later, find_same}
+use Rattle.keys.specs.declared.Names.{Names}
+use Rattle.keys.specs.Keyed.{no_key, key_at, KeyFor, Keyed, LookedUp}
 
 -- the two answers of a look-up
-pub nothing_at : {i : ℕ} → Nothing ≡ At i → ⊥
+nothing_at : {i : ℕ} → Nothing ≡ At i → ⊥
 nothing_at e = let z : ◌≡◌ {A = ℕ} 0 1 = cc in omega arith
 
-pub at_same : {i j : ℕ} → At i ≡ At j → i ≡ j
+at_same : {i j : ℕ} → At i ≡ At j → i ≡ j
 at_same e = cc
 
--- the three numbers of key k
-pub key_read : (keys : List ℕ) (k l f s : ℕ) → l ≡ get_or keys (3 * k) 0 → f ≡ get_or keys (3 * k + 1) 0 → s ≡ get_or keys (3 * k + 2) 0
-    → ◌≡◌ {A = Key} (record { length = l; first = f; second = s }) (key_at keys k)
-key_read keys k l f s p q r = rw (p, q, r)
+-- a name that none of the names is is not found
+not_among : (n : List ℕ) (k : ℕ) (names : List (List ℕ)) → ((j : ℕ) → j < length names → same_name EitherCase (get_or names j []) n ≡ false)
+    → find_from EitherCase k n names ≡ Nothing
+not_among n k [] none = find_none EitherCase k n
+not_among n k (m ∷ ms) none =
+    find_later EitherCase k n m ms (none 0 (omega arith)) ∙ not_among n (suc k) ms (λ j h. none (suc j) (omega arith))
 
-module _ {names : List (List ℕ)} {keys : List ℕ} {key : Key} {n : List ℕ} (t : Keyed names keys) (p : KeyFor key n) (k : ℕ) where
+module _ {names : List (List ℕ)} {t : Names} {key : Key} {n : List ℕ} (held : Keyed names t) (p : KeyFor key n) where
   -- name k has the key exactly where it is the same name
-  key_tells : k < length names → same_key (key_at keys k) key ≡ same_name EitherCase (get_or names k []) n
-  key_tells h =
-      let own = t.has_key k h in
-      keys_tell EitherCase (get_or names k []) n (key_at keys k) key (own.key_is, own.bytes) (p.key_is, p.bytes) (λ e. t.short k h)
+  key_tells : (k : ℕ) → k < length names → same_key (key_at t k) key ≡ same_name EitherCase (get_or names k []) n
+  key_tells k h =
+      let own = held.has_key k h in
+      keys_tell EitherCase (get_or names k []) n (key_at t k) key (own.key_is, own.bytes) (p.key_is, p.bytes) (λ e. held.short k h)
 
-  pub found_here : k < length names → same_key (key_at keys k) key ≡ true → find EitherCase names n ≡ At k
-  found_here h e =
-      let same = (same_decides EitherCase (get_or names k []) n).0 (sym (key_tells h) ∙ e) in
-      sym (find_same EitherCase (get_or names k []) n 0 names same) ∙ t.own_place k h
+  found_here : (k : ℕ) → k < length names → same_key (key_at t k) key ≡ true → find EitherCase names n ≡ At k
+  found_here k h e =
+      let same = (same_decides EitherCase (get_or names k []) n).0 (sym (key_tells k h) ∙ e) in
+      sym (find_same EitherCase (get_or names k []) n 0 names same) ∙ held.own_place k h
 
-  -- for a loop that has come to name k
-  left : k < length names → drop k names ≡ get_or names k [] ∷ drop (k + 1) names
-  left h = rw (add-one, drop-cons names k [])
+  found_none : ((k : ℕ) → k < length names → same_key (key_at t k) key ≡ false) → find EitherCase names n ≡ Nothing
+  found_none none = not_among n 0 names (λ k h. sym (key_tells k h) ∙ none k h)
 
-  pub found_hit : k < length names → same_key (key_at keys k) key ≡ true → find_from EitherCase k n (drop k names) ≡ At k
-  found_hit h e = rw (left h) (find_first EitherCase k n (get_or names k []) (drop (k + 1) names) (sym (key_tells h) ∙ e))
+-- ---- the answer of a look-up
 
-  pub found_miss : k < length names → same_key (key_at keys k) key ≡ false
-      → find_from EitherCase k n (drop k names) ≡ find_from EitherCase (k + 1) n (drop (k + 1) names)
-  found_miss h e =
-      rw (left h) (find_later EitherCase k n (get_or names k []) (drop (k + 1) names) (sym (key_tells h) ∙ e))
-      ∙ ap (λ (i : ℕ). find_from EitherCase i n (drop (k + 1) names)) (sym (add-one k))
+module _ (t : Names) (count : ℕ) (key : Key) where
+  pub looked_at : (k : ℕ) → k < count → same_key (key_at t k) key ≡ true → LookedUp t count key (At k)
+  looked_at k h e =
+      record {
+        below = λ i q. omega (arith, h, at_same q);
+        found = λ names n held size p. sym (found_here held p k (omega (arith, size, h)) e);
+      }
 
-  pub found_none : length names ≤ k → find_from EitherCase k n (drop k names) ≡ Nothing
-  found_none h = rw (drop_of_length-le names h) (find_none EitherCase k n)
+  -- the first of a part of the table
+  pub looked_first : (few k : ℕ) → few ≤ count → k < length (take few t.keys) → same_key (get_or (take few t.keys) k no_key) key ≡ true → LookedUp t count key (At k)
+  looked_first few k h l e =
+      let inside : k < few = omega (arith, l, length-take few t.keys) in
+      looked_at k (omega (arith, h, inside)) (ap (λ (x : Key). same_key x key) (sym (get_or-take few t.keys k no_key inside)) ∙ e)
+
+  -- no table has more than there is room for
+  pub looked_none : (few : ℕ) → few ≡ min count max_names → ((k : ℕ) → k < length (take few t.keys) → same_key (get_or (take few t.keys) k no_key) key ≡ false)
+      → LookedUp t count key Nothing
+  looked_none few m none =
+      record {
+        below = λ i q. absurd (nothing_at q);
+        found = λ names n held size p.
+            let each : (k : ℕ) → k < length names → same_key (key_at t k) key ≡ false =
+            λ k h. let inside : k < few = omega (arith, m, size, held.few, h) in
+            ap (λ (x : Key). same_key x key) (sym (get_or-take few t.keys k no_key inside)) ∙ none k (omega (arith, inside, m, held.room, length-take few t.keys)) in
+            sym (found_none held p each);
+      }

@@ -1,5 +1,5 @@
 -- The names of a file while it is read, held as a table of their keys.
-use Rattle.std.specs.Prelude.{◌≡◌, cond, List, [], ℕ, ◌+◌, ◌*◌, ◌%◌, ◌≤◌, ◌<◌, ltb, length, get_or, set}
+use Rattle.std.specs.Prelude.{◌≡◌, cond, List, [], ℕ, ◌%◌, ◌≤◌, ◌<◌, ltb, length, get_or, set, replicate}
 use Rattle.std.specs.Int.Bits.{bit_xor}
 use Rattle.scan.specs.Text.{max_length}
 use Rattle.scan.specs.Keys.{Bytes, key_of}
@@ -9,18 +9,15 @@ use Rattle.book.specs.Limits.{max_names}
 use Rattle.book.specs.Book.{find}
 use Rattle.book.specs.declared.Found.{Found}
 use Rattle.book.specs.declared.Found.TheVariants.{At}
+use Rattle.keys.specs.declared.Names.{Names}
 
--- key k has three numbers of the table
-abbrev pub key_at : List ℕ → ℕ → Key
-key_at keys k = record { length = get_or keys (3 * k) 0; first = get_or keys (3 * k + 1) 0; second = get_or keys (3 * k + 2) 0 }
+-- the key of no name, which stands where none is declared
+abbrev pub no_key : Key
+no_key = record { length = 0; first = 0; second = 0 }
 
--- the table with a key in place k
-abbrev pub with_key : List ℕ → ℕ → Key → List ℕ
-with_key keys k key = set (set (set keys (3 * k) key.length) (3 * k + 1) key.first) (3 * k + 2) key.second
-
--- name k is declared, where the table has room for it
-abbrev pub put_key : List ℕ → ℕ → Key → List ℕ
-put_key keys k key = cond (ltb k max_names) (with_key keys k key) keys
+-- the key in place k
+abbrev pub key_at : Names → ℕ → Key
+key_at t k = get_or t.keys k no_key
 
 -- how many places the hints have; `src/lib.rt` has the same number
 abbrev pub max_hints : ℕ
@@ -30,8 +27,13 @@ max_hints = 1021
 abbrev pub hint_place : Key → ℕ
 hint_place key = bit_xor key.first key.second % max_hints
 
-abbrev pub put_hint : List ℕ → ℕ → Key → List ℕ
-put_hint hints k key = cond (ltb k max_names) (set hints (hint_place key) k) hints
+-- the table in which no name is declared
+abbrev pub no_names : Names
+no_names = record { keys = replicate max_names no_key; hints = replicate max_hints 0 }
+
+-- name k is declared, where the table has room for it
+abbrev pub with_name : Names → ℕ → Key → Names
+with_name t k key = cond (ltb k max_names) (record { keys = set t.keys k key; hints = set t.hints (hint_place key) k }) t
 
 -- the key is that of the name
 pub record KeyFor (key : Key) (name : List ℕ) : Type 0 where
@@ -39,15 +41,15 @@ pub record KeyFor (key : Key) (name : List ℕ) : Type 0 where
   pub bytes : Bytes name
 
 -- the table has the key of each name; a name is found at its own place, so no two are the same
-pub record Keyed (names : List (List ℕ)) (keys : List ℕ) : Type 0 where
-  pub room : length keys ≡ 3 * max_names
+pub record Keyed (names : List (List ℕ)) (t : Names) : Type 0 where
+  pub room : length t.keys ≡ max_names
   pub few : length names ≤ max_names
-  pub has_key : (k : ℕ) → k < length names → KeyFor (key_at keys k) (get_or names k [])
+  pub has_key : (k : ℕ) → k < length names → KeyFor (key_at t k) (get_or names k [])
   pub short : (k : ℕ) → k < length names → length (get_or names k []) ≤ max_length
   pub own_place : (k : ℕ) → k < length names → find EitherCase names (get_or names k []) ≡ At k
 
 -- A look-up of a key among `count` names. Whatever is in the table, a number that is found lies below the count; where the table has the keys of the names,
 -- it is the number of the name among them.
-pub record LookedUp (keys : List ℕ) (count : ℕ) (key : Key) (r : Found) : Type 0 where
+pub record LookedUp (t : Names) (count : ℕ) (key : Key) (r : Found) : Type 0 where
   pub below : (i : ℕ) → r ≡ At i → i < count
-  pub found : (names : List (List ℕ)) (n : List ℕ) → Keyed names keys → count ≡ length names → KeyFor key n → r ≡ find EitherCase names n
+  pub found : (names : List (List ℕ)) (n : List ℕ) → Keyed names t → count ≡ length names → KeyFor key n → r ≡ find EitherCase names n

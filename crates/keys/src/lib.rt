@@ -2,108 +2,75 @@
 // was declared.
 #![tactic(auto)]
 
-ghost use Rattle.std.specs.Prelude.{◌≡◌, ◌≤◌, ◌<◌, get_or};
-ghost use Rattle.scan.specs.Keys.{same_key};
-ghost use Rattle.book.specs.Limits.{max_names};
-ghost use Rattle.keys.specs.Keyed.{key_at, with_key, put_key, hint_place, put_hint, LookedUp};
+ghost use Rattle.std.specs.Prelude.{◌≡◌, ◌<◌};
+ghost use Rattle.keys.specs.Keyed.{max_hints, hint_place, no_names, with_name, LookedUp};
 
 use book::Found;
 use scan::Key;
 
-// A key takes three numbers: length, first and second word.
-pub const MAX_KEYS: usize = 3 * book::MAX_NAMES;
-
 // The places of the hints: more than there are names, and a prime, so that few names share one. `max_hints` in specs/Keyed.antt is the same number.
-pub const MAX_HINTS: usize = 1021;
-
-// The number at place i, or 0 past the end.
-fn number_at(keys: &[u64], i: usize) -> u64
-    ensures { result ≡ get_or keys.now i 0 }
-{
-    if i < keys.len() {
-        return keys[i];
-    }
-    0
-}
-
-// Whether name k has the key.
-fn has(keys: &[u64], k: usize, key: Key) -> bool
-    requires { k ≤ 255 }
-    ensures { result ≡ same_key (key_at keys.now k) key }
-{
-    let own = Key {
-        length: number_at(keys, 3 * k) as usize,
-        first: number_at(keys, 3 * k + 1),
-        second: number_at(keys, 3 * k + 2),
-    };
-    scan::same_key(own, key)
-}
-
-// The number of the first of `count` names that has the key.
-fn first_with(keys: &[u64], count: usize, key: Key) -> Found
-    ensures { LookedUp keys.now count key result }
-{
-    // No file has so many.
-    if book::MAX_NAMES < count {
-        return Found::Nothing;
-    }
-    let mut k = 0;
-    while k < count {
-        if has(keys, k, key) {
-            return Found::At(k);
-        }
-        k += 1;
-    }
-    Found::Nothing
-}
-
-// ---- hints: whatever they say, the names that they lead to are compared by their keys
+const MAX_HINTS: usize = 1021;
 
 // Where the hint for a key stands. Which place it is matters to speed alone.
 fn hint_place(key: Key) -> usize
-    ensures { result ≡ hint_place key }
+    ensures place { result ≡ hint_place key }
+    ensures room { result < max_hints }
 {
+    // `as` loses nothing, and `try_from` would bring an error that cannot come.
     ((key.first ^ key.second) % MAX_HINTS as u64) as usize
 }
 
-// The name to look at first.
-fn hint_at(hints: &[u8], i: usize) -> usize
-    ensures { result ≤ 255 }
-{
-    if i < hints.len() {
-        return hints[i] as usize;
-    }
-    0
+// The names that are declared: the keys in the order of their numbers, and the hints. Whatever the hints say, the names that they lead to are compared by
+// their keys.
+#[derive(Clone, Copy)]
+pub struct Names {
+    keys: [Key; book::MAX_NAMES],
+    hints: [u8; MAX_HINTS],
 }
 
-// The number of the name with the key among `count` names.
-pub fn find(keys: &[u64], hints: &[u8], count: usize, key: Key) -> Found
-    ensures { LookedUp keys.now count key result }
-{
-    let hint = hint_at(hints, hint_place(key));
-    if hint < count {
-        if has(keys, hint, key) {
-            return Found::At(hint);
+impl Names {
+    // No name is declared.
+    pub fn empty() -> Names
+        ensures { result ≡ no_names }
+    {
+        let no_key = Key {
+            length: 0,
+            first: 0,
+            second: 0,
+        };
+        Names {
+            keys: [no_key; book::MAX_NAMES],
+            hints: [0u8; MAX_HINTS],
         }
     }
-    first_with(keys, count, key)
-}
 
-fn put_key(keys: &mut [u64], k: usize, key: Key)
-    requires { k < max_names }
-    ensures { keys.new ≡ with_key keys.old k key }
-{
-    store::put64(keys, 3 * k, key.length as u64);
-    store::put64(keys, 3 * k + 1, key.first);
-    store::put64(keys, 3 * k + 2, key.second);
-}
+    // The number of the name with the key among the first `count`. The count is no field: it stands with the reader's other counts, which a line alters
+    // together.
+    pub fn find(&self, count: usize, key: Key) -> Found
+        ensures { LookedUp self.now count key result }
+    {
+        let few = count.min(book::MAX_NAMES);
+        let hint = usize::from(self.hints[hint_place(key)]);
+        if hint < few && scan::same_key(self.keys[hint], key) {
+            return Found::At(hint);
+        }
+        match self.keys[..few]
+            .iter()
+            .position(|own| scan::same_key(*own, key))
+        {
+            Some(k) => Found::At(k),
+            None => Found::Nothing,
+        }
+    }
 
-// Name k is declared: it has the key, and is the name to look at first for it.
-pub fn put(keys: &mut [u64], hints: &mut [u8], k: usize, key: Key)
-    ensures { (keys.new ≡ put_key keys.old k key) × (hints.new ≡ put_hint hints.old k key) }
-{
-    if k < book::MAX_NAMES {
-        put_key(keys, k, key);
-        store::put8(hints, hint_place(key), k as u8);
+    // Name k is declared: it has the key, and is the name to look at first for it. A name past the table is left out.
+    pub fn put(&mut self, k: usize, key: Key)
+        ensures { self.new ≡ with_name self.old k key }
+    {
+        if k < book::MAX_NAMES {
+            self.keys[k] = key;
+            // As in `hint_place`, `as` loses nothing.
+            self.hints[hint_place(key)] = k as u8;
+        }
     }
 }

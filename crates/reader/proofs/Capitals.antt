@@ -1,6 +1,6 @@
 -- Document 02, A.2: a file without capitals has the outcome that it had before, refusals included. Without capitals both alphabets have the same names and
 -- count two names as the same or not alike, so each test of the definition answers alike, and each line adds the same.
-use mathlib.Core.Path.{◌≡◌, refl, ap, ap₂, ◌∙◌}
+use mathlib.Core.Path.{◌≡◌, refl, ap, ap₂, ◌∙◌, subst}
 use mathlib.Core.Logic.{⊎_elim}
 use mathlib.Core.Bool.{Bool, true, false, not, cond, ◌&&◌, ◌||◌}
 use mathlib.Core.List.Memᴰ
@@ -20,10 +20,14 @@ use Rattle.scan.specs.declared.Word.{Word}
 use Rattle.scan.specs.declared.Word.TheVariants.{Name, Rule as RuleWord, End, Unknown}
 use Rattle.book.specs.Book.{find_from}
 use Rattle.book.specs.declared.Found.{Found}
-use Rattle.reader.specs.File.{Content, nothing_yet, all_fields, has_tilde, is_found, number_in, head_tilde, is_literal, declared, is_known, malformed, declared_before, uses_undeclared, fault_of, line_fault, literal_number, entry_from, rule_from, extended, with_line, read_lines, lines_of, read_file}
+use Rattle.reader.specs.File.{Content, nothing_yet, all_fields, has_tilde, is_found, number_in, head_tilde, is_literal, declared, is_known, malformed, declared_before, uses_undeclared, fault_of, line_fault, literal_number, entry_from, rule_from, extended, with_line, read_lines, lines_of, Outcome, read_file}
 use Rattle.reader.specs.Conditions.{HasBytes}
 use Rattle.reader.specs.NoBytes.{read_file01}
-use Rattle.reader.specs.Loading.{loaded_of}
+use Rattle.reader.specs.Loading.{LoadedAs}
+use Rattle.reader.specs.declared.Refusal.{Refusal}
+use Rattle.reader.proofs.Outcomes.{loaded_same}
+use Rattle.book.specs.declared.Book.{Book}
+use Rattle.std.proofs.Common.{Result}
 use Rattle.reader.specs.Capitals.{NoCapitals}
 use Rattle.reader.proofs.NoBytes.{bytes_as_before}
 
@@ -245,5 +249,5 @@ pub small_as_01 : (file : List ℕ) → HasBytes file → NoCapitals file → re
 small_as_01 file some n = small_as_before file n ∙ bytes_as_before SmallOnly file some
 
 -- it loads to the same book
-pub small_loads_as_before : (file : List ℕ) → NoCapitals file → loaded_of (read_file EitherCase file) ≡ loaded_of (read_file SmallOnly file)
-small_loads_as_before file n = ap loaded_of (small_as_before file n)
+pub small_loads_as_before : (file : List ℕ) → NoCapitals file → (a b : Result Book Refusal) → LoadedAs (read_file EitherCase file) a → LoadedAs (read_file SmallOnly file) b → a ≡ b
+small_loads_as_before file n a b p q = loaded_same (read_file SmallOnly file) a b (subst (λ (o : Outcome). LoadedAs o a) (small_as_before file n) p) q

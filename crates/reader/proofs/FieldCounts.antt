@@ -1,43 +1,18 @@
 -- Which counts of fields number 4 lets pass, by the first word: the test fails exactly for two fields of a name's line, for two up to the literals of a body and
 -- two of a rule's, and for the one of `end`.
-use mathlib.Core.Path.{◌≡◌, refl, sym, ◌∙◌}
-use mathlib.Core.Bool.{true, false, not, ◌&&◌, not-not}
+use mathlib.Core.Path.{◌≡◌, refl}
+use mathlib.Core.Bool.{true, false, ◌&&◌}
 use mathlib.Core.List.{List, []}
-use Prim.Native.Nat.{ℕ, ◌+◌, ◌-◌, ◌≤◌, ◌<◌}
+use Prim.Native.Nat.{ℕ, ◌+◌, ◌-◌, ◌≤◌}
 use native.Mathlib.Omega.{arith}
 use lib.Dec.{eqb, leb}
 use lib.ListN.{length}
-use borrow.Author.Tests.{le-leb, lt-leb, leb-true, eqb-true, eq-eqb, not-false}
-use Rattle.truth.proofs.Truth.{same_test, and_l, and_r}
+use borrow.Author.Tests.{le-leb, leb-true, eqb-true, not-false}
+use Rattle.truth.proofs.Truth.{and_l, and_r}
 use Rattle.scan.specs.declared.Word.TheVariants.{Name, Rule as RuleWord, End, Unknown}
 use Rattle.book.specs.Limits.{max_body}
 use Rattle.reader.specs.File.{wrong_fields}
 use Rattle.reader.proofs.Faults.{no_entries}
-
--- ---- n fields, of which `others` are those behind the first
-
-module _ (others : List (List ℕ)) (n : ℕ) (size : n ≡ length others + 1) where
-  one_less : (k : ℕ) → eqb n (k + 1) ≡ eqb (length others) k
-  one_less k =
-      same_test (λ e. let h = eqb-true n (k + 1) e in eq-eqb (length others) k (omega arith)) (λ e. let h = eqb-true (length others) k e in eq-eqb n (k + 1) (omega arith))
-
-  pub name_count_lem : eqb n 2 ≡ not (wrong_fields Name others)
-  unfolding wrong_fields
-  name_count_lem = one_less 1 ∙ sym (not-not (eqb (length others) 1))
-
-  pub rule_count : 2 ≤ n → leb n (max_body + 2) ≡ not (wrong_fields RuleWord others)
-  unfolding wrong_fields
-  rule_count h =
-      same_test (λ e. let l = leb-true n (max_body + 2) e in le-leb (length others) (max_body + 1) (omega arith)) (λ e. let l = leb-true (length others) (max_body + 1) e in le-leb n (max_body + 2) (omega arith))
-      ∙ rw (le-leb 1 (length others) (omega arith), not-not (leb (length others) (max_body + 1)))
-
-  pub rule_short : n < 2 → leb 2 n ≡ not (wrong_fields RuleWord others)
-  unfolding wrong_fields
-  rule_short h = rw (lt-leb 2 n h, lt-leb 1 (length others) (omega arith))
-
-  pub end_count : eqb n 1 ≡ not (wrong_fields End others)
-  unfolding wrong_fields
-  end_count = one_less 0 ∙ sym (not-not (eqb (length others) 0))
 
 pub unknown_wrong : (others : List (List ℕ)) → wrong_fields Unknown others ≡ true
 unfolding wrong_fields

@@ -1,11 +1,13 @@
 -- Laws over the fields of a line: for a loop that has come to the field at place p, which ends at e, and for a field's name looked up.
 use mathlib.Core.Path.{◌≡◌, refl, ap, ◌∙◌, sym}
-use mathlib.Core.Bool.{Bool, true, false, cond, not, or-true, not-not}
+use mathlib.Core.Bool.{Bool, true, false, cond, not, not-not, true≢false}
 use mathlib.Core.List.{List, ◌∷◌}
 use Prim.Native.Nat.{ℕ, zero, suc, ◌+◌, ◌-◌, ◌*◌, ◌≤◌, ◌<◌, zero-le}
+use native.Mathlib.Nat.{sub-zero}
 use native.Mathlib.Omega.{arith}
 use lib.ListN.{length, take, drop}
 use lib.Dec.{eqb}
+use Rattle.std.proofs.Common.{Option, Some, None, is_some}
 use Rattle.wfsx.specs.Program.{positive, default}
 use Rattle.scan.specs.Text.{len_to, rest, tildes, minuses, name_of, comma, fields}
 use Rattle.scan.proofs.Places.{rest_step, rest_none, rest_here}
@@ -18,7 +20,6 @@ use Rattle.scan.specs.declared.Alphabet.TheVariants.{EitherCase}
 use Rattle.reader.specs.File.{all_fields, declared, is_found, number_in, literal_number, entry_from, is_literal, has_tilde, malformed}
 use Rattle.reader.specs.Steps.{known_by, known_of}
 use Rattle.reader.specs.declared.Known.{Known}
-use Rattle.reader.specs.declared.Known.TheVariants.{Undeclared, Entry}
 
 -- ---- a test of every field
 
@@ -44,46 +45,45 @@ module _ (f : List ℕ → Bool) (l : List ℕ) (p : ℕ) where
   fields_end h = ap (all_fields f) (rest_none comma l p h)
 
 -- the first field of a line ends at e
-pub first_field : (line : List ℕ) (e : ℕ) → e ≡ 0 + len_to comma (drop 0 line) → fields line ≡ take (e - 0) (drop 0 line) ∷ rest comma line (e + 1)
-first_field line e q = sym (rest_here comma line 0 zero-le) ∙ rest_step comma line 0 e zero-le q
+pub first_field : (line : List ℕ) (e : ℕ) → e ≡ 0 + len_to comma (drop 0 line) → fields line ≡ take e line ∷ rest comma line (e + 1)
+first_field line e q =
+    sym (rest_here comma line 0 zero-le) ∙ rest_step comma line 0 e zero-le q ∙ ap (λ (n : ℕ). take n line ∷ rest comma line (e + 1)) (sub-zero e)
 
 -- ---- the form of a rule, by its head and its body
 
 module _ (h : List ℕ) (ls : List (List ℕ)) where
-  pub head_malformed : is_literal EitherCase h ≡ false → false ≡ not (malformed EitherCase RuleWord (h ∷ ls))
-  unfolding malformed all_fields
-  head_malformed e = rw (e, or-true (has_tilde h))
-
   pub head_tilde_lem : has_tilde h ≡ true → false ≡ not (malformed EitherCase RuleWord (h ∷ ls))
   unfolding malformed
   head_tilde_lem e = rw e
 
-  pub head_formed : is_literal EitherCase h ≡ true → has_tilde h ≡ false → all_fields (is_literal EitherCase) ls ≡ not (malformed EitherCase RuleWord (h ∷ ls))
-  unfolding malformed all_fields
-  head_formed literal plain = rw (literal, plain, not-not (all_fields (is_literal EitherCase) ls))
+-- a rule whose head has no `~` is well formed where all fields are
+pub head_plain : (fs : List (List ℕ)) (h : List ℕ) (ls : List (List ℕ)) → fs ≡ h ∷ ls → has_tilde h ≡ false
+    → all_fields (is_literal EitherCase) fs ≡ not (malformed EitherCase RuleWord fs)
+unfolding malformed
+head_plain fs h ls part plain = rw (part, plain, not-not (all_fields (is_literal EitherCase) (h ∷ ls))) refl
 
 -- ---- a name looked up
 
 module _ (names : List (List ℕ)) (f : List ℕ) where
-  pub known_undeclared : find EitherCase names (name_of f) ≡ Nothing → known_of names f ≡ Undeclared
+  pub known_none : find EitherCase names (name_of f) ≡ Nothing → known_of names f ≡ None
   unfolding known_of
-  known_undeclared e = ap (λ (x : Found). known_by x (tildes f) (minuses f)) e
+  known_none e = ap (λ (x : Found). known_by x (tildes f) (minuses f)) e
 
-  pub known_entry : (i : ℕ) → find EitherCase names (name_of f) ≡ At i → known_of names f ≡ Entry (2 * i + minuses f) (tildes f)
+  pub known_some : (i : ℕ) → find EitherCase names (name_of f) ≡ At i → known_of names f ≡ Some (record { literal = 2 * i + minuses f; tildes = tildes f })
   unfolding known_of
-  known_entry i e = ap (λ (x : Found). known_by x (tildes f) (minuses f)) e
+  known_some i e = ap (λ (x : Found). known_by x (tildes f) (minuses f)) e
 
-  is_known_lem : Known → Bool
-  is_known_lem Undeclared = false
-  is_known_lem (Entry l t) = true
+  is_known_lem : Option Known → Bool
+  is_known_lem None = false
+  is_known_lem (Some k) = true
 
-  literal_known : Known → ℕ
-  literal_known Undeclared = minuses f
-  literal_known (Entry l t) = l
+  literal_known : Option Known → ℕ
+  literal_known None = minuses f
+  literal_known (Some k) = k.literal
 
-  tildes_known : Known → ℕ
-  tildes_known Undeclared = tildes f
-  tildes_known (Entry l t) = t
+  tildes_known : Option Known → ℕ
+  tildes_known None = tildes f
+  tildes_known (Some k) = k.tildes
 
   declared_test : declared EitherCase names (name_of f) ≡ is_known_lem (known_of names f)
   unfolding known_of is_known_lem
@@ -93,16 +93,16 @@ module _ (names : List (List ℕ)) (f : List ℕ) where
       go Nothing = refl
       go (At i) = refl
 
-  pub not_declared : known_of names f ≡ Undeclared → declared EitherCase names (name_of f) ≡ false
+  pub not_declared : known_of names f ≡ None → declared EitherCase names (name_of f) ≡ false
   unfolding is_known_lem
   not_declared e = declared_test ∙ ap is_known_lem e
 
-  module _ (l t : ℕ) (e : known_of names f ≡ Entry l t) where
+  module _ (k : Known) (e : known_of names f ≡ Some k) where
     pub is_declared : declared EitherCase names (name_of f) ≡ true
     unfolding is_known_lem
     is_declared = declared_test ∙ ap is_known_lem e
 
-    pub literal_is : literal_number EitherCase names f ≡ l
+    pub literal_is : literal_number EitherCase names f ≡ k.literal
     unfolding known_of literal_known literal_number
     literal_is = go (find EitherCase names (name_of f)) ∙ ap literal_known e
       where
@@ -110,7 +110,7 @@ module _ (names : List (List ℕ)) (f : List ℕ) where
         go Nothing = omega arith
         go (At i) = refl
 
-    pub tildes_are : tildes f ≡ t
+    pub tildes_are : tildes f ≡ k.tildes
     unfolding known_of tildes_known
     tildes_are = go (find EitherCase names (name_of f)) ∙ ap tildes_known e
       where
@@ -119,21 +119,29 @@ module _ (names : List (List ℕ)) (f : List ℕ) where
         go (At i) = refl
 
     -- the code that is stored for the field
-    pub code_is : code_of (entry_from EitherCase names f) ≡ 2 * l + t
+    pub code_is : code_of (entry_from EitherCase names f) ≡ 2 * k.literal + k.tildes
     unfolding entry_from
     code_is = go (tildes f) tildes_are (lead_most 126 f)
       where
-        go : (n : ℕ) → n ≡ t → n ≤ 1 → code_of (cond (eqb n 1) (default (literal_number EitherCase names f)) (positive (literal_number EitherCase names f))) ≡ 2 * l + t
+        go : (n : ℕ) → n ≡ k.tildes → n ≤ 1 → code_of (cond (eqb n 1) (default (literal_number EitherCase names f)) (positive (literal_number EitherCase names f))) ≡ 2 * k.literal + k.tildes
         go zero q h = omega (arith, literal_is)
         go (suc zero) q h = omega (arith, literal_is)
         go (suc (suc n)) q h = absurd (omega arith)
 
--- a literal by its name's number and its marks is small
-pub entry_small : (f : List ℕ) (i count l t : ℕ) → i < count → Entry (2 * i + minuses f) (tildes f) ≡ Entry l t → (l < 2 * count) × (t ≤ 1)
-entry_small f i count l t h e =
-    let literal : 2 * i + minuses f ≡ l = cc in
-    let mark : tildes f ≡ t = cc in
-    (omega (arith, literal, lead_most 45 (drop (tildes f) f)), omega (arith, mark, lead_most 126 f))
+pub none_some : {k : Known} → ◌≡◌ {A = Option Known} None (Some k) → ⊥
+none_some e = true≢false (sym (ap (λ (x : Option Known). is_some x) e))
 
-pub undeclared_entry : {l t : ℕ} → Undeclared ≡ Entry l t → ⊥
-undeclared_entry e = let z : ◌≡◌ {A = ℕ} 0 1 = cc in omega arith
+-- a literal by its name's number and its marks is small
+pub known_small : (f : List ℕ) (i count : ℕ) (k : Known) → i < count → Some (record { literal = 2 * i + minuses f; tildes = tildes f }) ≡ Some k → (k.literal < 2 * count) × (k.tildes ≤ 1)
+known_small f i count k h e =
+    let literal : 2 * i + minuses f ≡ k.literal = ap (literal_in 0) e in
+    let mark : tildes f ≡ k.tildes = ap (tildes_in 0) e in
+    (omega (arith, literal, lead_most 45 (drop (tildes f) f)), omega (arith, mark, lead_most 126 f))
+  where
+    literal_in : ℕ → Option Known → ℕ
+    literal_in n None = n
+    literal_in n (Some x) = x.literal
+
+    tildes_in : ℕ → Option Known → ℕ
+    tildes_in n None = n
+    tildes_in n (Some x) = x.tildes

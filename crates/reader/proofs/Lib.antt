@@ -1,5 +1,5 @@
 -- Laws of the reader's definitions.
-pub mod Sums
+pub mod Parts
 pub mod Faults
 pub mod Lines
 pub mod FieldCounts

@@ -1,9 +1,10 @@
 -- What the reader leaves in memory. The answer says which outcome the file has, and the tables of an accepted file give back its names and rules, since they
 -- are within the limits.
 use mathlib.Core.Path.{◌≡◌, refl, sym, ap, ◌∙◌}
-use mathlib.Core.Bool.{Bool, true, false, true≢false}
+use mathlib.Core.Bool.{Bool, true, false, cond, true≢false}
 use mathlib.Core.List.{List}
-use Prim.Native.Nat.{ℕ}
+use Prim.Native.Nat.{ℕ, zero, suc, ◌≤◌}
+use lib.Dec.{eqb}
 use native.Mathlib.Omega.{arith}
 use Rattle.wfsx.specs.Program.{Rule}
 use Rattle.scan.proofs.Names.{name_fits}
@@ -12,10 +13,12 @@ use Rattle.book.specs.Book.{names_of, rules_of, book_of}
 use Rattle.book.specs.declared.Book.{Book}
 use Rattle.book.proofs.Back.{Storable, book_names, book_rules}
 use Rattle.reader.specs.File.{Outcome, accepted, refused, read_file}
-use Rattle.reader.specs.Loading.{loaded_of}
-use Rattle.reader.specs.declared.Answer.{Answer}
-use Rattle.reader.specs.declared.Answer.TheVariants.{Accepted, Refused}
-use Rattle.reader.specs.declared.Loaded.{Loaded}
+use Rattle.reader.specs.Loading.{number_of, RefusedAs, WasAccepted, LoadedAs}
+use Rattle.reader.specs.declared.Fault.{Fault}
+use Rattle.reader.specs.declared.Fault.TheVariants.{TooLong, StrangeByte, LastLineOpen, FieldsWrong, FormWrong, NameTaken, NameMissing, TableFull, EndNotLast}
+use Rattle.reader.specs.declared.Refusal.{Refusal}
+use Rattle.reader.proofs.Conditions.{refused_numbers}
+use Rattle.std.proofs.Common.{Result, Ok, Err}
 use Rattle.reader.proofs.Within.{Within, accepted_within}
 
 -- ---- the names and rules of an accepted file
@@ -39,35 +42,83 @@ module _ (file : List ℕ) (names : List (List ℕ)) (rules : List Rule) (e : re
 
 -- ---- the outcome by the answer
 
-is_accepted : Answer → Bool
-is_accepted Accepted = true
-is_accepted (Refused number line) = false
+-- the fault that has a number
+numbered : ℕ → Fault
+numbered n =
+    cond (eqb n 1) TooLong (
+    cond (eqb n 2) StrangeByte (
+    cond (eqb n 3) LastLineOpen (
+    cond (eqb n 4) FieldsWrong (
+    cond (eqb n 5) FormWrong (
+    cond (eqb n 6) NameTaken (
+    cond (eqb n 7) NameMissing (
+    cond (eqb n 8) TableFull (EndNotLast))))))))
 
-pub refused_accepted : (k line : ℕ) → ◌≡◌ {A = Answer} (Refused k line) Accepted → ⊥
+numbered_back : (f : Fault) → numbered (number_of f) ≡ f
+unfolding numbered
+numbered_back TooLong = refl
+numbered_back StrangeByte = refl
+numbered_back LastLineOpen = refl
+numbered_back FieldsWrong = refl
+numbered_back FormWrong = refl
+numbered_back NameTaken = refl
+numbered_back NameMissing = refl
+numbered_back TableFull = refl
+numbered_back EndNotLast = refl
+
+-- faults with the same number are the same
+pub number_same : (f g : Fault) → number_of f ≡ number_of g → f ≡ g
+number_same f g e = sym (numbered_back f) ∙ ap numbered e ∙ numbered_back g
+
+is_accepted : Outcome → Bool
+is_accepted (accepted names rules) = true
+is_accepted (refused k line) = false
+
+pub refused_accepted : (k line : ℕ) (names : List (List ℕ)) (rules : List Rule) → ◌≡◌ {A = Outcome} (refused k line) (accepted names rules) → ⊥
 unfolding is_accepted
-refused_accepted k line e = true≢false (sym (ap is_accepted e))
+refused_accepted k line names rules e = true≢false (sym (ap is_accepted e))
 
-answer_in : {p q : Loaded} → p ≡ q → p.answer ≡ q.answer
-answer_in e = ap (λ (x : Loaded). x.answer) e
+pub refused_same : (a b : Refusal) (o : Outcome) → RefusedAs o a → RefusedAs o b → a ≡ b
+refused_same a b o p q =
+    let e : ◌≡◌ {A = Outcome} (refused (number_of a.fault) a.line) (refused (number_of b.fault) b.line) = sym p ∙ q in
+    let numbers : number_of a.fault ≡ number_of b.fault = cc in
+    let lines : a.line ≡ b.line = cc in
+    rw (number_same a.fault b.fault numbers, lines) refl
 
--- an accepted file, with the book that is left
-pub record WasAccepted (o : Outcome) (book : Book) : Type 0 where
-  pub names : List (List ℕ)
-  pub rules : List Rule
-  pub outcome : o ≡ accepted names rules
-  pub book_is : book ≡ book_of names rules
+accepted_same : (o : Outcome) (a b : Book) → WasAccepted o a → WasAccepted o b → a ≡ b
+accepted_same o a b p q =
+    let e : ◌≡◌ {A = Outcome} (accepted p.names p.rules) (accepted q.names q.rules) = sym p.outcome ∙ q.outcome in
+    let names : p.names ≡ q.names = cc in
+    let rules : p.rules ≡ q.rules = cc in
+    p.book_is ∙ rw (names, rules) refl ∙ sym q.book_is
 
-module _ (q : Loaded) where
-  pub was_accepted : (o : Outcome) → q ≡ loaded_of o → q.answer ≡ Accepted → WasAccepted o q.book
-  unfolding loaded_of
-  was_accepted (accepted names rules) e a = record { names = names; rules = rules; outcome = refl; book_is = ap (λ (x : Loaded). x.book) e }
-  was_accepted (refused k line) e a = absurd (refused_accepted k line (sym (answer_in e) ∙ a))
+-- a file's outcome settles what a load answers
+pub loaded_same : (o : Outcome) (a b : Result Book Refusal) → LoadedAs o a → LoadedAs o b → a ≡ b
+loaded_same o (Ok a) (Ok b) p q = ap Ok (accepted_same o a b p q)
+loaded_same o (Ok a) (Err b) p q = absurd (refused_accepted (number_of b.fault) b.line p.names p.rules (sym q ∙ p.outcome))
+loaded_same o (Err a) (Ok b) p q = absurd (refused_accepted (number_of a.fault) a.line q.names q.rules (sym p ∙ q.outcome))
+loaded_same o (Err a) (Err b) p q = ap Err (refused_same a b o p q)
 
-  pub was_refused : (o : Outcome) → q ≡ loaded_of o → (k line : ℕ) → q.answer ≡ Refused k line → o ≡ refused k line
-  unfolding loaded_of
-  was_refused (accepted names rules) e k line a = absurd (refused_accepted k line (sym a ∙ answer_in e))
-  was_refused (refused j at) e k line a =
-      let same : ◌≡◌ {A = Answer} (Refused j at) (Refused k line) = sym (answer_in e) ∙ a in
-      let first : j ≡ k = cc in
-      let second : at ≡ line = cc in
-      cc
+-- there is a fault with each number that a file is refused by, and so an answer for each file
+pub fault_numbered : (k : ℕ) → 1 ≤ k → k ≤ 9 → (f : Fault) × (number_of f ≡ k)
+fault_numbered zero h l = absurd (omega arith)
+fault_numbered (suc zero) h l = (TooLong, refl)
+fault_numbered (suc (suc zero)) h l = (StrangeByte, refl)
+fault_numbered (suc (suc (suc zero))) h l = (LastLineOpen, refl)
+fault_numbered (suc (suc (suc (suc zero)))) h l = (FieldsWrong, refl)
+fault_numbered (suc (suc (suc (suc (suc zero))))) h l = (FormWrong, refl)
+fault_numbered (suc (suc (suc (suc (suc (suc zero)))))) h l = (NameTaken, refl)
+fault_numbered (suc (suc (suc (suc (suc (suc (suc zero))))))) h l = (NameMissing, refl)
+fault_numbered (suc (suc (suc (suc (suc (suc (suc (suc zero)))))))) h l = (TableFull, refl)
+fault_numbered (suc (suc (suc (suc (suc (suc (suc (suc (suc zero))))))))) h l = (EndNotLast, refl)
+fault_numbered (suc (suc (suc (suc (suc (suc (suc (suc (suc (suc k)))))))))) h l = absurd (omega arith)
+
+pub loaded_exists : (file : List ℕ) → (r : Result Book Refusal) × LoadedAs (read_file EitherCase file) r
+loaded_exists file = go (read_file EitherCase file) refl
+  where
+    go : (o : Outcome) → read_file EitherCase file ≡ o → (r : Result Book Refusal) × LoadedAs o r
+    go (accepted names rules) e = (Ok (book_of names rules), record { names = names; rules = rules; outcome = refl; book_is = refl })
+    go (refused k at) e =
+        let within = refused_numbers file k at e in
+        let fault = fault_numbered k within.0 within.1 in
+        (Err (record { fault = fault.0; line = at }), rw fault.1 refl)

@@ -1,6 +1,6 @@
 -- A loop over the lines of a file: what has been read is held, and the lines that are left decide. A line without a fault is added to it, and a faulty one gives
 -- the outcome, as the end of the lines does.
-use mathlib.Core.Path.{◌≡◌, refl, sym, ap, ◌∙◌}
+use mathlib.Core.Path.{◌≡◌, sym, ap, ◌∙◌}
 use mathlib.Core.Bool.{Bool, true, false, cond}
 use mathlib.Core.List.{List}
 use Prim.Native.Nat.{ℕ, ◌+◌, ◌-◌, ◌≤◌, ◌<◌, zero-le}
@@ -10,12 +10,17 @@ use Rattle.scan.specs.Text.{newline, split, len_to, rest, fields}
 use Rattle.scan.proofs.Places.{rest_here, rest_step, rest_none}
 use Rattle.scan.specs.declared.Alphabet.TheVariants.{EitherCase}
 use Rattle.reader.specs.File.{Content, nothing_yet, line_fault, with_line, accepted, refused, read_lines}
-use Rattle.reader.specs.Steps.{no_counts, Holds, Stored, line_step, LineRead, last_answer, FileRead}
+use Rattle.reader.specs.Loading.{number_of, RefusedAs}
+use Rattle.reader.specs.Tables.{Lists}
+use Rattle.reader.specs.Steps.{no_counts, Holds, Stored, line_step, LineRead, FineFile}
 use Rattle.reader.specs.declared.Counts.{Counts}
-use Rattle.reader.specs.declared.LineAnswer.{LineAnswer}
-use Rattle.reader.specs.declared.LineAnswer.TheVariants.{Fine, Fault}
-use Rattle.reader.specs.declared.FileAnswer.TheVariants as whole
-use Rattle.reader.proofs.Answers.{was_fine, was_fault}
+use Rattle.reader.specs.declared.Fault.{Fault}
+use Rattle.reader.specs.declared.Fault.TheVariants.{EndNotLast}
+use Rattle.keys.specs.Keyed.{no_names}
+use Rattle.keys.specs.declared.Names.{Names}
+use Rattle.reader.proofs.Answers.{faulty}
+use Rattle.reader.proofs.Held.{nothing_held}
+use Rattle.std.proofs.Common.{Ok, Err}
 
 module _ (d : Content) (number : ℕ) (b : List ℕ) (at : ℕ) where
   module _ (e : ℕ) (h : at ≤ length b) (q : e ≡ at + len_to newline (drop at b)) where
@@ -33,52 +38,44 @@ module _ (d : Content) (number : ℕ) (b : List ℕ) (at : ℕ) where
   lines_end h = ap (read_lines EitherCase d number) (rest_none newline b at h)
 
 -- what has been read up to place `at`, and that what is left decides
-pub record ReadTo (b : List ℕ) (t : Counts) (at number : ℕ) (keys text lengths heads starts entries text' lengths' heads' starts' entries' : List ℕ) : Type 0 where
+pub record ReadTo (b : List ℕ) (t : Counts) (at number : ℕ) (names : Names) (l l' : Lists) : Type 0 where
   pub content : Content
-  pub held : Holds content t keys
-  pub stored : Stored nothing_yet text lengths heads starts entries → Stored content text' lengths' heads' starts' entries'
+  pub held : Holds content t names
+  pub stored : Stored nothing_yet l → Stored content l'
   pub same : read_lines EitherCase content number (rest newline b at) ≡ read_lines EitherCase nothing_yet 1 (split newline b)
 
-pub read_none : (b : List ℕ) {keys text lengths heads starts entries : List ℕ} → Holds nothing_yet no_counts keys
-    → ReadTo b no_counts 0 1 keys text lengths heads starts entries text lengths heads starts entries
-read_none b h = record { content = nothing_yet; held = h; stored = λ s. s; same = ap (read_lines EitherCase nothing_yet 1) (rest_here newline b 0 zero-le) }
+pub read_none : (b : List ℕ) {t : Counts} {names : Names} {l : Lists} → t ≡ no_counts → names ≡ no_names → ReadTo b t 0 1 names l l
+read_none b e q =
+    record { content = nothing_yet; held = nothing_held e q; stored = λ s. s; same = ap (read_lines EitherCase nothing_yet 1) (rest_here newline b 0 zero-le) }
 
 -- the line that ends at e is judged
-module _ {b : List ℕ} {t : Counts} {at number : ℕ} {keys text lengths heads starts entries text' lengths' heads' starts' entries' : List ℕ}
-    (read : ReadTo b t at number keys text lengths heads starts entries text' lengths' heads' starts' entries')
-    {e : ℕ} (h : at ≤ length b) (q : e ≡ at + len_to newline (drop at b))
-    {r : LineAnswer} {keys'' text'' lengths'' heads'' starts'' entries'' : List ℕ}
-    (line : (d : Content) → Holds d t keys
-    → LineRead (line_step d (fields (take (e - at) (drop at b)))) r keys'' text' lengths' heads' starts' entries' text'' lengths'' heads'' starts'' entries'') where
-  pub read_on : {u : Counts} → r ≡ Fine u → ReadTo b u (e + 1) (number + 1) keys'' text lengths heads starts entries text'' lengths'' heads'' starts'' entries''
-  read_on x =
+module _ {b : List ℕ} {t : Counts} {at number : ℕ} {names : Names} {l l' : Lists} (read : ReadTo b t at number names l l')
+    {e : ℕ} (h : at ≤ length b) (q : e ≡ at + len_to newline (drop at b)) {names' : Names} {l'' : Lists} where
+  pub read_on : {u : Counts} → ((d : Content) → Holds d t names → LineRead (line_step d (fields (take (e - at) (drop at b)))) (Ok u) names' l' l'')
+      → ReadTo b u (e + 1) (number + 1) names' l l''
+  read_on line =
       let judged = line read.content read.held in
-      let told = was_fine judged x in
       record {
         content = with_line EitherCase read.content (fields (take (e - at) (drop at b)));
-        held = told.1;
-        stored = λ none. judged.stored told.0 (read.stored none);
-        same = sym (lines_go read.content number b at e h q told.0) ∙ read.same;
+        held = judged.answer.1;
+        stored = λ none. judged.stored judged.answer.0 (read.stored none);
+        same = sym (lines_go read.content number b at e h q judged.answer.0) ∙ read.same;
       }
 
-  pub read_fault : {k : ℕ} → r ≡ Fault k
-      → FileRead (read_lines EitherCase nothing_yet 1 (split newline b)) (whole.Fault k number) keys'' text lengths heads starts entries text'' lengths'' heads'' starts'' entries''
-  read_fault {k} x =
-      let told = was_fault (line read.content read.held) x in
-      record { answer = sym read.same ∙ lines_stop read.content number b at e h q k told.0 told.1 }
+  pub read_fault : {f : Fault} → ((d : Content) → Holds d t names → LineRead (line_step d (fields (take (e - at) (drop at b)))) (Err f) names' l' l'')
+      → RefusedAs (read_lines EitherCase nothing_yet 1 (split newline b)) (record { fault = f; line = number })
+  read_fault {f} line =
+      sym read.same ∙ lines_stop read.content number b at e h q (number_of f) (line read.content read.held).answer (faulty f)
 
-module _ {b : List ℕ} {t : Counts} {at number : ℕ} {keys text lengths heads starts entries text' lengths' heads' starts' entries' : List ℕ}
-    (read : ReadTo b t at number keys text lengths heads starts entries text' lengths' heads' starts' entries') (none_left : length b < at) where
+module _ {b : List ℕ} {t : Counts} {at number : ℕ} {names : Names} {l l' : Lists} (read : ReadTo b t at number names l l') (none_left : length b < at) where
   outcome : (x : Bool) → t.ended ≡ x
       → read_lines EitherCase nothing_yet 1 (split newline b) ≡ cond x (accepted read.content.names read.content.rules) (refused 9 number)
   outcome x e =
       let d = read.content in
       sym read.same ∙ lines_end d number b at none_left ∙ ap (λ (z : Bool). cond z (accepted d.names d.rules) (refused 9 number)) (sym read.held.counted.ended_is ∙ e)
 
-  by_end : (x : Bool) → t.ended ≡ x
-      → FileRead (read_lines EitherCase nothing_yet 1 (split newline b)) (cond x (whole.Fine t) (whole.Fault 9 number)) keys text lengths heads starts entries text' lengths' heads' starts' entries'
-  by_end true e = record { answer = record { content = read.content; outcome = outcome true e; held = read.held; stored = read.stored } }
-  by_end false e = record { answer = outcome false e }
+  pub read_last : t.ended ≡ true → FineFile (read_lines EitherCase nothing_yet 1 (split newline b)) t l l'
+  read_last e = record { content = read.content; outcome = outcome true e; counted = read.held.counted; stored = read.stored }
 
-  pub read_last : FileRead (read_lines EitherCase nothing_yet 1 (split newline b)) (last_answer t number) keys text lengths heads starts entries text' lengths' heads' starts' entries'
-  read_last = by_end t.ended refl
+  pub read_unended : t.ended ≡ false → RefusedAs (read_lines EitherCase nothing_yet 1 (split newline b)) (record { fault = EndNotLast; line = number })
+  read_unended e = outcome false e

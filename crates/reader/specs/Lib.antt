@@ -5,4 +5,5 @@ pub mod NoBytes
 pub mod Capitals
 pub mod Loading
 pub mod Sizing
+pub mod Tables
 pub mod Steps

@@ -1,24 +1,116 @@
 // A marking file of whatever bytes becomes a book, or is refused under its number and line. Sizing reads it the same way and stores no book.
 #![tactic(auto)]
 
-ghost use Rattle.std.specs.Prelude.{◌≡◌, false, not, List, [], ◌∷◌, ℕ, ◌+◌, ◌≤◌, length};
-ghost use Rattle.scan.specs.Text.{newline, comma, split, rest, fields};
+ghost use Rattle.std.specs.Prelude.{◌≡◌, false, not, List, [], ◌∷◌, ℕ, ◌+◌, ◌≤◌, ◌<◌, length};
+ghost use Rattle.scan.specs.Text.{newline, comma, max_length, split, rest, fields};
 ghost use Rattle.scan.specs.declared.Word.TheVariants.{Name, Rule as RuleWord};
 ghost use Rattle.scan.specs.declared.Alphabet.TheVariants.{EitherCase};
-ghost use Rattle.book.specs.Limits.{max_names, max_entries, max_body};
+ghost use Rattle.book.specs.Limits.{max_names, max_rules, max_entries, max_body};
 ghost use Rattle.keys.specs.Keyed.{Keyed};
-ghost use Rattle.reader.specs.File.{Content, nothing_yet, all_fields, is_literal, wrong_fields, malformed, accepted, refused, read_lines, read_file};
-ghost use Rattle.reader.specs.Loading.{loaded_of};
-ghost use Rattle.reader.specs.Sizing.{size_of};
-ghost use Rattle.reader.specs.Steps.{no_counts, Fits, Holds, Stored, KnownAmong, FieldsKnown, line_step, word_step, NameRead, RuleRead, LineRead, last_answer, FileRead};
+ghost use Rattle.reader.specs.File.{Content, nothing_yet, all_fields, is_literal, wrong_fields, malformed, read_lines, read_file};
+ghost use Rattle.reader.specs.Loading.{number_of, LoadedAs};
+ghost use Rattle.reader.specs.Sizing.{SizedAs};
+ghost use Rattle.reader.specs.Tables.{Lists, no_lists, lists_of, with_name, with_entry, with_rule};
+ghost use Rattle.reader.specs.Steps.{no_counts, Fits, Holds, KnownAmong, FieldsKnown, line_step, word_step, LineRead, FileRead};
 
 use book::{Book, Found};
+use keys::Names;
 use scan::{Alphabet, Form, Word};
 
 // The most bytes of a file; `max_bytes` in specs/File.antt is the same number.
 const MAX_BYTES: usize = 60000;
 
-// How much has been read: names, rules, body literals, and whether `end` came.
+// ---- refusals
+
+// What is wrong with a file: the conditions of refusals 1 to 9 (specs/Conditions.antt), with their numbers.
+#[derive(Clone, Copy, Debug, PartialEq, Eq)]
+pub enum Fault {
+    TooLong = 1,
+    StrangeByte = 2,
+    LastLineOpen = 3,
+    FieldsWrong = 4,
+    FormWrong = 5,
+    NameTaken = 6,
+    NameMissing = 7,
+    TableFull = 8,
+    EndNotLast = 9,
+}
+
+impl Fault {
+    // The number of the refusal.
+    pub fn number(self) -> u8
+        ensures { result ≡ number_of self }
+    {
+        self as u8
+    }
+}
+
+// A fault and its line, which is 0 where the fault is that of the whole file.
+#[derive(Clone, Copy, Debug, PartialEq, Eq)]
+pub struct Refusal {
+    pub fault: Fault,
+    pub line: usize,
+}
+
+// ---- tables
+
+// Where the names and rules of a file go.
+trait Tables {
+    // What they hold.
+    ghost lists: { Self → Lists };
+
+    // Name k.
+    fn put_name(&mut self, k: usize, name: &[u8])
+        requires { (k < max_names) × (length name.now ≤ max_length) }
+        ensures { lists self.new ≡ with_name (lists self.old) k name.now };
+
+    // What stands in place j of the bodies: twice a literal, and one more where `not` stands before it. Past the end of a table it is left out.
+    fn put_entry(&mut self, j: usize, entry: u16)
+        ensures { lists self.new ≡ with_entry (lists self.old) j entry };
+
+    // The head of rule r, and where its body ends.
+    fn put_rule(&mut self, r: usize, head: u16, end: u16)
+        requires { r < max_rules }
+        ensures { lists self.new ≡ with_rule (lists self.old) r head end };
+}
+
+impl Tables for Book {
+    ghost lists = { lists_of };
+
+    fn put_name(&mut self, k: usize, name: &[u8]) {
+        store::put_all(&mut self.text, scan::MAX_LENGTH * k, name);
+        // `as` loses nothing, and `try_from` would bring an error that cannot come.
+        self.lengths[k] = name.len() as u8;
+    }
+
+    fn put_entry(&mut self, j: usize, entry: u16) {
+        store::put16(&mut self.entries, j, entry);
+    }
+
+    fn put_rule(&mut self, r: usize, head: u16, end: u16) {
+        self.heads[r] = head;
+        self.starts[r + 1] = end;
+    }
+}
+
+// No tables: a file is read and nothing is stored.
+#[derive(Clone, Copy)]
+struct Unstored;
+
+impl Tables for Unstored {
+    ghost lists = { λ s. no_lists };
+
+    fn put_name(&mut self, _k: usize, _name: &[u8]) {}
+
+    fn put_entry(&mut self, _j: usize, _entry: u16) {}
+
+    fn put_rule(&mut self, _r: usize, _head: u16, _end: u16) {}
+}
+
+// ---- a name's line
+
+// How much has been read: names, rules, body literals, and whether `end` came. That it fits the tables is required of it by three functions (`Fits`): as a
+// ghost field that would be no plainer, since a struct with one has no `..t`, and functions whose clauses name it stand in another file.
 #[derive(Clone, Copy)]
 struct Counts {
     names: usize,
@@ -27,52 +119,33 @@ struct Counts {
     ended: bool,
 }
 
-// A line without a fault, with the counts behind it, or its fault.
-#[derive(Clone, Copy)]
-enum LineAnswer {
-    Fine(Counts),
-    Fault(u8),
-}
-
-// A file without a fault, with the counts of what it says, or its fault and the line of it.
-#[derive(Clone, Copy)]
-enum FileAnswer {
-    Fine(Counts),
-    Fault { number: u8, line: usize },
-}
-
-// ---- a name's line
-
 // The line that declares `name`.
-fn name_line(
+fn name_line<T: Tables>(
     t: Counts,
-    keys: &mut [u64],
-    hints: &mut [u8],
-    text: &mut [u8],
-    lengths: &mut [u8],
+    names: &mut Names,
+    tables: &mut T,
     name: &[u8],
-) -> LineAnswer
+) -> Result<Counts, Fault>
     requires { Fits t × (t.ended ≡ false) }
-    ensures { (d : Content) → Holds d t keys.old
-        → NameRead (word_step d Name (name.now ∷ [])) result keys.new
-        text.old lengths.old text.new lengths.new }
+    ensures { (d : Content) → Holds d t names.old
+        → LineRead (word_step d Name (name.now ∷ [])) result names.new (T.lists tables.old)
+        (T.lists tables.new) }
 {
     if !scan::is_name(name) {
-        return LineAnswer::Fault(5);
+        return Err(Fault::FormWrong);
     }
     let count = t.names;
     let key = scan::key_of(name, Alphabet::EitherCase);
-    let Found::Nothing = keys::find(keys, hints, count, key) else {
-        return LineAnswer::Fault(6);
+    let Found::Nothing = names.find(count, key) else {
+        return Err(Fault::NameTaken);
     };
     let full = book::MAX_NAMES <= count;
     if full {
-        return LineAnswer::Fault(8);
+        return Err(Fault::TableFull);
     }
-    keys::put(keys, hints, count, key);
-    store::put_all(text, scan::MAX_LENGTH * count, name);
-    store::put8(lengths, count, name.len() as u8);
-    LineAnswer::Fine(Counts {
+    names.put(count, key);
+    tables.put_name(count, name);
+    Ok(Counts {
         names: count + 1,
         ..t
     })
@@ -80,86 +153,81 @@ fn name_line(
 
 // ---- a rule's line
 
-// Whether every field from place `from` on reads as a literal.
-fn all_literals(line: &[u8], from: usize) -> bool
-    requires { from ≤ length line.now + 1 }
-    ensures { result ≡ all_fields (is_literal EitherCase) (rest comma line.now from) }
+// Whether a field reads as a literal.
+fn is_literal(f: &[u8]) -> bool
+    ensures { result ≡ is_literal EitherCase f.now }
 {
-    let mut p = from;
-    while p <= line.len() {
-        let e = scan::end_of(line, p, b',');
-        let Form::Literal {
+    match scan::form_of(f) {
+        Form::Literal {
             tildes: _,
             minuses: _,
-        } = scan::form_of(&line[p..e])
-        else {
-            return false;
-        };
-        p = e + 1;
+        } => true,
+        Form::Malformed => false,
     }
-    true
 }
 
-// Whether the head and every field behind it reads as a literal, and the head has no `~`.
+// Whether every field reads as a literal, and the first, which is the head, has no `~`.
 fn well_formed(rule: &[u8]) -> bool
     ensures { result ≡ not (malformed EitherCase RuleWord (fields rule.now)) }
 {
     let e = scan::end_of(rule, 0, b',');
-    let Form::Literal { tildes, minuses: _ } = scan::form_of(&rule[0..e]) else {
-        return false;
-    };
+    let tildes = scan::marks_of(&rule[..e]).tildes;
     let marked = tildes != 0;
     if marked {
         return false;
     }
-    all_literals(rule, e + 1)
+    rule.split(|b| *b == b',').all(|f| is_literal(f))
 }
 
-// A field's name looked up: its literal, and how many `~` stand before it.
+// The literal of a field whose name is declared, and how many `~` stand before it.
 #[derive(Clone, Copy)]
-enum Known {
-    Undeclared,
-    Entry { literal: usize, tildes: usize },
+struct Known {
+    literal: usize,
+    tildes: usize,
 }
 
-fn known_of(keys: &[u64], hints: &[u8], count: usize, f: &[u8]) -> Known
+// A field's name looked up.
+fn known_of(names: &Names, count: usize, f: &[u8]) -> Option<Known>
     requires { count ≤ max_names }
-    ensures { KnownAmong keys.now count f.now result }
+    ensures { KnownAmong names.now count f.now result }
 {
     let m = scan::marks_of(f);
     let from = m.tildes + m.minuses;
     let key = scan::key_of(&f[from..], Alphabet::EitherCase);
-    let Found::At(i) = keys::find(keys, hints, count, key) else {
-        return Known::Undeclared;
+    let Found::At(i) = names.find(count, key) else {
+        return None;
     };
-    Known::Entry {
+    Some(Known {
         literal: 2 * i + m.minuses,
         tildes: m.tildes,
-    }
+    })
 }
 
 // Whether every field from place `from` on has a declared name. Then their entries stand from `at` on.
-fn all_known(
-    keys: &[u64],
-    hints: &[u8],
+fn all_known<T: Tables>(
+    names: &Names,
     count: usize,
-    entries: &mut [u16],
+    tables: &mut T,
     at: usize,
     line: &[u8],
     from: usize,
 ) -> bool
     requires { (count ≤ max_names) × (from ≤ length line.now + 1) × (at ≤ max_entries) }
-    ensures { (names : List (List ℕ)) → Keyed names keys.now → count ≡ length names
-        → FieldsKnown names (rest comma line.now from) at result entries.old entries.new }
+    ensures { (declared : List (List ℕ)) → Keyed declared names.now → count ≡ length declared
+        → FieldsKnown declared (rest comma line.now from) at result (T.lists tables.old)
+        (T.lists tables.new) }
 {
     let mut k = at;
     let mut p = from;
+    // A place is moved by hand: a `for` over `split` was tried, and in a function with a type parameter the proof of a loop over an iterator with a closure
+    // does not close.
     while p <= line.len() {
         let e = scan::end_of(line, p, b',');
-        let Known::Entry { literal, tildes } = known_of(keys, hints, count, &line[p..e]) else {
+        let Some(known) = known_of(names, count, &line[p..e]) else {
             return false;
         };
-        store::put16(entries, k, (2 * literal + tildes) as u16);
+        // As in `put_name`, `as` loses nothing.
+        tables.put_entry(k, (2 * known.literal + known.tildes) as u16);
         k += 1;
         p = e + 1;
     }
@@ -167,41 +235,38 @@ fn all_known(
 }
 
 // The line whose fields after the first are a head and n body literals.
-fn rule_line(
+fn rule_line<T: Tables>(
     t: Counts,
-    keys: &[u64],
-    hints: &[u8],
-    heads: &mut [u16],
-    starts: &mut [u16],
-    entries: &mut [u16],
+    names: &Names,
+    tables: &mut T,
     rule: &[u8],
     n: usize,
-) -> LineAnswer
+) -> Result<Counts, Fault>
     requires { Fits t × (t.ended ≡ false) × (n ≤ max_body) × (n + 1 ≡ length (fields rule.now)) }
-    ensures { (d : Content) → Holds d t keys.now
-        → RuleRead (word_step d RuleWord (fields rule.now)) result keys.now
-        heads.old starts.old entries.old heads.new starts.new entries.new }
+    ensures { (d : Content) → Holds d t names.now
+        → LineRead (word_step d RuleWord (fields rule.now)) result names.now (T.lists tables.old)
+        (T.lists tables.new) }
 {
     if !well_formed(rule) {
-        return LineAnswer::Fault(5);
+        return Err(Fault::FormWrong);
     }
     let e = scan::end_of(rule, 0, b',');
-    let Known::Entry { literal, tildes: _ } = known_of(keys, hints, t.names, &rule[0..e]) else {
-        return LineAnswer::Fault(7);
+    let Some(head) = known_of(names, t.names, &rule[..e]) else {
+        return Err(Fault::NameMissing);
     };
-    if !all_known(keys, hints, t.names, entries, t.used, rule, e + 1) {
-        return LineAnswer::Fault(7);
+    if !all_known(names, t.names, tables, t.used, rule, e + 1) {
+        return Err(Fault::NameMissing);
     }
     let rules = t.rules;
     let end = t.used + n;
     let many = book::MAX_RULES <= rules;
     let long = book::MAX_ENTRIES < end;
     if many || long {
-        return LineAnswer::Fault(8);
+        return Err(Fault::TableFull);
     }
-    store::put16(heads, rules, literal as u16);
-    store::put16(starts, rules + 1, end as u16);
-    LineAnswer::Fine(Counts {
+    // As in `put_name`, `as` loses nothing.
+    tables.put_rule(rules, head.literal as u16, end as u16);
+    Ok(Counts {
         rules: rules + 1,
         used: end,
         ..t
@@ -211,6 +276,7 @@ fn rule_line(
 // ---- a line, the lines, the file
 
 // Whether a line whose first field is the word may have n fields.
+#[tactic(auto, unfolding(crate::specs::File::wrong_fields))]
 fn right_count(word: Word, n: usize) -> bool
     ensures { (others : List (List ℕ)) → n ≡ length others + 1 → result ≡ not (wrong_fields word others) }
 {
@@ -223,41 +289,35 @@ fn right_count(word: Word, n: usize) -> bool
 }
 
 // A line behind those that have been read.
-fn judge(
+fn judge<T: Tables>(
     t: Counts,
-    keys: &mut [u64],
-    hints: &mut [u8],
-    text: &mut [u8],
-    lengths: &mut [u8],
-    heads: &mut [u16],
-    starts: &mut [u16],
-    entries: &mut [u16],
+    names: &mut Names,
+    tables: &mut T,
     line: &[u8],
-) -> LineAnswer
+) -> Result<Counts, Fault>
     requires { Fits t }
-    ensures { (d : Content) → Holds d t keys.old
-        → LineRead (line_step d (fields line.now)) result keys.new
-        text.old lengths.old heads.old starts.old entries.old
-        text.new lengths.new heads.new starts.new entries.new }
+    ensures { (d : Content) → Holds d t names.old
+        → LineRead (line_step d (fields line.now)) result names.new (T.lists tables.old)
+        (T.lists tables.new) }
 {
     if t.ended {
-        return LineAnswer::Fault(9);
+        return Err(Fault::EndNotLast);
     }
     let e = scan::end_of(line, 0, b',');
     let n = scan::pieces(line, b',');
-    let word = scan::word_of(&line[0..e]);
+    let word = scan::word_of(&line[..e]);
     if !right_count(word, n) {
-        return LineAnswer::Fault(4);
+        return Err(Fault::FieldsWrong);
     }
     match word {
-        Word::Name => name_line(t, keys, hints, text, lengths, &line[e + 1..]),
+        Word::Name => name_line(t, names, tables, &line[e + 1..]),
         Word::Rule => {
             let rule = &line[e + 1..];
-            rule_line(t, keys, hints, heads, starts, entries, rule, n - 2)
+            rule_line(t, names, tables, rule, n - 2)
         }
-        Word::End => LineAnswer::Fine(Counts { ended: true, ..t }),
+        Word::End => Ok(Counts { ended: true, ..t }),
         // No count of fields is right for it.
-        Word::Unknown => LineAnswer::Fault(4),
+        Word::Unknown => Err(Fault::FieldsWrong),
     }
 }
 
@@ -273,221 +333,100 @@ fn none_yet() -> Counts
     }
 }
 
-// The answer where no line is left: `end` has come, or 9 is given to the line where it was expected.
-fn last_answer(t: Counts, line: usize) -> FileAnswer
-    ensures { result ≡ last_answer t line }
-{
-    if t.ended {
-        return FileAnswer::Fine(t);
-    }
-    FileAnswer::Fault { number: 9, line }
-}
-
 // The lines of b, which is the file without its last byte.
-fn read_lines(
-    b: &[u8],
-    keys: &mut [u64],
-    hints: &mut [u8],
-    text: &mut [u8],
-    lengths: &mut [u8],
-    heads: &mut [u16],
-    starts: &mut [u16],
-    entries: &mut [u16],
-) -> FileAnswer
-    requires { Holds nothing_yet no_counts keys.old }
-    ensures { FileRead (read_lines EitherCase nothing_yet 1 (split newline b.now)) result keys.new
-        text.old lengths.old heads.old starts.old entries.old
-        text.new lengths.new heads.new starts.new entries.new }
+fn read_lines<T: Tables>(b: &[u8], tables: &mut T) -> Result<Counts, Refusal>
+    ensures { FileRead (read_lines EitherCase nothing_yet 1 (split newline b.now)) result
+        (T.lists tables.old) (T.lists tables.new) }
 {
+    let mut names = Names::empty();
     let mut t = none_yet();
     let mut at = 0;
     let mut number = 1;
+    // A place is moved by hand, as in `all_known`.
     while at <= b.len() {
         let e = scan::end_of(b, at, b'\n');
-        match judge(
-            t,
-            keys,
-            hints,
-            text,
-            lengths,
-            heads,
-            starts,
-            entries,
-            &b[at..e],
-        ) {
-            LineAnswer::Fine(u) => {
-                t = u;
-            }
-            LineAnswer::Fault(k) => {
-                return FileAnswer::Fault {
-                    number: k,
-                    line: number,
-                };
-            }
-        }
+        t = judge(t, &mut names, tables, &b[at..e]).map_err(|fault| Refusal {
+            fault,
+            line: number,
+        })?;
         at = e + 1;
         number += 1;
     }
-    last_answer(t, number)
+    if t.ended {
+        Ok(t)
+    } else {
+        // The line is the one where `end` was expected.
+        Err(Refusal {
+            fault: Fault::EndNotLast,
+            line: number,
+        })
+    }
 }
 
-// The file, into the tables that are lent for it: a name or a rule that lies past them is judged and counted, and not stored.
-fn read_file(
-    file: &[u8],
-    keys: &mut [u64],
-    hints: &mut [u8],
-    text: &mut [u8],
-    lengths: &mut [u8],
-    heads: &mut [u16],
-    starts: &mut [u16],
-    entries: &mut [u16],
-) -> FileAnswer
-    requires { Holds nothing_yet no_counts keys.old }
-    ensures { FileRead (read_file EitherCase file.now) result keys.new
-        text.old lengths.old heads.old starts.old entries.old
-        text.new lengths.new heads.new starts.new entries.new }
+// The file, into the tables.
+fn read_file<T: Tables>(file: &[u8], tables: &mut T) -> Result<Counts, Refusal>
+    ensures { FileRead (read_file EitherCase file.now) result (T.lists tables.old)
+        (T.lists tables.new) }
 {
     let n = file.len();
     let long = MAX_BYTES < n;
     if long {
-        return FileAnswer::Fault { number: 1, line: 0 };
+        return Err(Refusal {
+            fault: Fault::TooLong,
+            line: 0,
+        });
     }
     if !scan::all_text(file) {
-        return FileAnswer::Fault { number: 2, line: 0 };
+        return Err(Refusal {
+            fault: Fault::StrangeByte,
+            line: 0,
+        });
     }
     // A file of no bytes has no lines, and needs no `end`.
     let bare = n == 0;
     if bare {
-        return FileAnswer::Fine(none_yet());
+        return Ok(none_yet());
     }
     if file[n - 1] != b'\n' {
-        return FileAnswer::Fault { number: 3, line: 0 };
+        return Err(Refusal {
+            fault: Fault::LastLineOpen,
+            line: 0,
+        });
     }
-    read_lines(
-        &file[0..n - 1],
-        keys,
-        hints,
-        text,
-        lengths,
-        heads,
-        starts,
-        entries,
-    )
+    read_lines(&file[..n - 1], tables)
 }
 
 // ---- loading
 
-#[derive(Clone, Copy)]
-pub enum Answer {
-    Accepted,
-    Refused { number: u8, line: usize },
-}
-
-// The answer beside the book.
-#[derive(Clone, Copy)]
-pub struct Loaded {
-    pub answer: Answer,
-    pub book: Book,
-}
-
-fn refusal(number: u8, line: usize) -> Loaded
-    ensures { result ≡ loaded_of (refused number line) }
+// The book that a file says.
+pub fn read(file: &[u8]) -> Result<Book, Refusal>
+    ensures { LoadedAs (read_file EitherCase file.now) result }
 {
-    Loaded {
-        answer: Answer::Refused { number, line },
-        book: book::no_book(),
-    }
-}
-
-// The tables of a file that was read to its end are its book.
-fn accepted_with(
-    t: Counts,
-    text: [u8; book::MAX_TEXT],
-    lengths: [u8; book::MAX_NAMES],
-    heads: [u16; book::MAX_RULES],
-    starts: [u16; book::MAX_STARTS],
-    entries: [u16; book::MAX_ENTRIES],
-) -> Loaded
-    ensures { (d : Content) (keys : List ℕ) → Holds d t keys → Stored d text lengths heads starts entries
-        → result ≡ loaded_of (accepted d.names d.rules) }
-{
-    Loaded {
-        answer: Answer::Accepted,
-        book: Book {
-            names: t.names,
-            rules: t.rules,
-            text,
-            lengths,
-            heads,
-            starts,
-            entries,
-        },
-    }
-}
-
-pub fn read(file: &[u8]) -> Loaded
-    ensures { result ≡ loaded_of (read_file EitherCase file.now) }
-{
-    let mut keys = [0u64; keys::MAX_KEYS];
-    let mut hints = [0u8; keys::MAX_HINTS];
-    let mut text = [0u8; book::MAX_TEXT];
-    let mut lengths = [0u8; book::MAX_NAMES];
-    let mut heads = [0u16; book::MAX_RULES];
-    let mut starts = [0u16; book::MAX_STARTS];
-    let mut entries = [0u16; book::MAX_ENTRIES];
-    match read_file(
-        file,
-        &mut keys,
-        &mut hints,
-        &mut text,
-        &mut lengths,
-        &mut heads,
-        &mut starts,
-        &mut entries,
-    ) {
-        FileAnswer::Fine(t) => accepted_with(t, text, lengths, heads, starts, entries),
-        FileAnswer::Fault { number, line } => refusal(number, line),
-    }
+    let mut book = book::no_book();
+    let t = read_file(file, &mut book)?;
+    book.names = t.names;
+    book.rules = t.rules;
+    Ok(book)
 }
 
 // ---- sizing
 
-// What a file fills of each table, or the refusal that loading gives.
-#[derive(Clone, Copy)]
-pub enum SizeAnswer {
-    Accepted {
-        names: usize,
-        rules: usize,
-        body_literals: usize,
-    },
-    Refused {
-        number: u8,
-        line: usize,
-    },
+// What a file fills of each table.
+#[derive(Clone, Copy, Debug, PartialEq, Eq)]
+pub struct Sizes {
+    pub names: usize,
+    pub rules: usize,
+    pub body_literals: usize,
 }
 
-// How much of each table a file fills, with no book stored: it is read as for loading, over slices that have no room for a name or a rule. The keys of the
-// names are kept, since 6 and 7 look names up.
-pub fn size(file: &[u8]) -> SizeAnswer
-    ensures { result ≡ size_of (read_file EitherCase file.now) }
+// How much of each table a file fills, or the refusal that loading gives, with no book stored.
+pub fn size(file: &[u8]) -> Result<Sizes, Refusal>
+    ensures { SizedAs (read_file EitherCase file.now) result }
 {
-    let mut keys = [0u64; keys::MAX_KEYS];
-    let mut hints = [0u8; keys::MAX_HINTS];
-    match read_file(
-        file,
-        &mut keys,
-        &mut hints,
-        &mut [],
-        &mut [],
-        &mut [],
-        &mut [],
-        &mut [],
-    ) {
-        FileAnswer::Fine(t) => SizeAnswer::Accepted {
-            names: t.names,
-            rules: t.rules,
-            body_literals: t.used,
-        },
-        FileAnswer::Fault { number, line } => SizeAnswer::Refused { number, line },
-    }
+    let t = read_file(file, &mut Unstored)?;
+    Ok(Sizes {
+        names: t.names,
+        rules: t.rules,
+        body_literals: t.used,
+    })
 }
