@@ -13,7 +13,7 @@ use Rattle.scan.specs.declared.Alphabet.TheVariants.{EitherCase}
 use Rattle.scan.specs.declared.Key.{Key}
 use Rattle.book.specs.Limits.{max_names}
 use Rattle.book.specs.Book.{find}
-use Rattle.book.specs.declared.Found.TheVariants.{Nothing, At}
+use Rattle.std.specs.Prelude.{None, Some}
 use Rattle.book.proofs.Lookup.{find_kept, find_joined}
 use Rattle.keys.specs.declared.Names.{Names}
 use Rattle.keys.specs.Keyed.{no_key, key_at, hint_place, no_names, with_name, KeyFor, Keyed}
@@ -27,7 +27,7 @@ abbrev stored : Names → ℕ → Key → Names
 stored t k key = record { keys = set t.keys k key; hints = set t.hints (hint_place key) k }
 
 module _ {names : List (List ℕ)} {t : Names} {key : Key} {n : List ℕ} (held : Keyed names t) (p : KeyFor key n) (k : ℕ) (last : k ≡ length names)
-    (room : k < max_names) (brief : length n ≤ max_length) (new : find EitherCase names n ≡ Nothing) where
+    (room : k < max_names) (brief : length n ≤ max_length) (new : find EitherCase names n ≡ None) where
   -- what holds of the names before and of the new one holds of all
   each : (P : ℕ → List ℕ → Type 0) → ((j : ℕ) → j < length names → P j (get_or names j [])) → P k n
       → (j : ℕ) → j < length (names ++ (n ∷ [])) → P j (get_or (names ++ (n ∷ [])) j [])
@@ -50,8 +50,8 @@ module _ {names : List (List ℕ)} {t : Names} {key : Key} {n : List ℕ} (held 
             (rw (get_or-set_same t.keys k key no_key (omega (arith, held.room))) p);
         short = each (λ j m. length m ≤ max_length) held.short brief;
         own_place =
-            each (λ j m. find EitherCase (names ++ (n ∷ [])) m ≡ At j) (λ j l. find_kept EitherCase (get_or names j []) 0 j names (n ∷ []) (held.own_place j l))
-            (find_joined EitherCase n 0 names new ∙ ap At (zero-add (length names) ∙ sym last));
+            each (λ j m. find EitherCase (names ++ (n ∷ [])) m ≡ Some j) (λ j l. find_kept EitherCase (get_or names j []) 0 j names (n ∷ []) (held.own_place j l))
+            (find_joined EitherCase n 0 names new ∙ ap Some (zero-add (length names) ∙ sym last));
       }
 
   pub keyed_more : Keyed (names ++ (n ∷ [])) (with_name t k key)

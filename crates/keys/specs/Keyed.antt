@@ -7,8 +7,7 @@ use Rattle.scan.specs.declared.Alphabet.TheVariants.{EitherCase}
 use Rattle.scan.specs.declared.Key.{Key}
 use Rattle.book.specs.Limits.{max_names}
 use Rattle.book.specs.Book.{find}
-use Rattle.book.specs.declared.Found.{Found}
-use Rattle.book.specs.declared.Found.TheVariants.{At}
+use Rattle.std.specs.Prelude.{Option, Some}
 use Rattle.keys.specs.declared.Names.{Names}
 
 -- the key of no name, which stands where none is declared
@@ -46,10 +45,10 @@ pub record Keyed (names : List (List ℕ)) (t : Names) : Type 0 where
   pub few : length names ≤ max_names
   pub has_key : (k : ℕ) → k < length names → KeyFor (key_at t k) (get_or names k [])
   pub short : (k : ℕ) → k < length names → length (get_or names k []) ≤ max_length
-  pub own_place : (k : ℕ) → k < length names → find EitherCase names (get_or names k []) ≡ At k
+  pub own_place : (k : ℕ) → k < length names → find EitherCase names (get_or names k []) ≡ Some k
 
 -- A look-up of a key among `count` names. Whatever is in the table, a number that is found lies below the count; where the table has the keys of the names,
 -- it is the number of the name among them.
-pub record LookedUp (t : Names) (count : ℕ) (key : Key) (r : Found) : Type 0 where
-  pub below : (i : ℕ) → r ≡ At i → i < count
+pub record LookedUp (t : Names) (count : ℕ) (key : Key) (r : Option ℕ) : Type 0 where
+  pub below : (i : ℕ) → r ≡ Some i → i < count
   pub found : (names : List (List ℕ)) (n : List ℕ) → Keyed names t → count ≡ length names → KeyFor key n → r ≡ find EitherCase names n

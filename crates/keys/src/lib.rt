@@ -5,7 +5,6 @@
 ghost use Rattle.std.specs.Prelude.{◌≡◌, ◌<◌};
 ghost use Rattle.keys.specs.Keyed.{max_hints, hint_place, no_names, with_name, LookedUp};
 
-use book::Found;
 use scan::Key;
 
 // The places of the hints: more than there are names, and a prime, so that few names share one. `max_hints` in specs/Keyed.antt is the same number.
@@ -46,21 +45,15 @@ impl Names {
 
     // The number of the name with the key among the first `count`. The count is no field: it stands with the reader's other counts, which a line alters
     // together.
-    pub fn find(&self, count: usize, key: Key) -> Found
+    pub fn find(&self, count: usize, key: Key) -> Option<usize>
         ensures { LookedUp self.now count key result }
     {
         let few = count.min(book::MAX_NAMES);
         let hint = usize::from(self.hints[hint_place(key)]);
-        if hint < few && scan::same_key(self.keys[hint], key) {
-            return Found::At(hint);
+        if hint < few && self.keys[hint] == key {
+            return Some(hint);
         }
-        match self.keys[..few]
-            .iter()
-            .position(|own| scan::same_key(*own, key))
-        {
-            Some(k) => Found::At(k),
-            None => Found::Nothing,
-        }
+        self.keys[..few].iter().position(|own| *own == key)
     }
 
     // Name k is declared: it has the key, and is the name to look at first for it. A name past the table is left out.

@@ -19,7 +19,7 @@ use Rattle.scan.specs.declared.Class.TheVariants.{Letter, Digit, Underscore, Oth
 use Rattle.scan.specs.declared.Word.{Word}
 use Rattle.scan.specs.declared.Word.TheVariants.{Name, Rule as RuleWord, End, Unknown}
 use Rattle.book.specs.Book.{find_from}
-use Rattle.book.specs.declared.Found.{Found}
+use Rattle.std.specs.Prelude.{Option}
 use Rattle.reader.specs.File.{Content, nothing_yet, all_fields, has_tilde, is_found, number_in, head_tilde, is_literal, declared, is_known, malformed, declared_before, uses_undeclared, fault_of, line_fault, literal_number, entry_from, rule_from, extended, with_line, read_lines, lines_of, Outcome, read_file}
 use Rattle.reader.specs.Conditions.{HasBytes}
 use Rattle.reader.specs.NoBytes.{read_file01}
@@ -150,7 +150,7 @@ module _ (names : List (List ℕ)) (known : Plains names) where
 
   number_alike : (f : List ℕ) → NoCapitals f → literal_number EitherCase names f ≡ literal_number SmallOnly names f
   unfolding literal_number
-  number_alike f p = ap (λ (x : Found). 2 * number_in x + minuses f) (find_alike 0 (name_of f) names (name_plain f p) known)
+  number_alike f p = ap (λ (x : Option ℕ). 2 * number_in x + minuses f) (find_alike 0 (name_of f) names (name_plain f p) known)
 
   entry_alike : (f : List ℕ) → NoCapitals f → entry_from EitherCase names f ≡ entry_from SmallOnly names f
   unfolding entry_from

@@ -13,8 +13,7 @@ use Rattle.scan.specs.Text.{len_to, rest, tildes, minuses, name_of, comma, field
 use Rattle.scan.proofs.Places.{rest_step, rest_none, rest_here}
 use Rattle.scan.proofs.Forms.{lead_most}
 use Rattle.book.specs.Book.{find, code_of}
-use Rattle.book.specs.declared.Found.{Found}
-use Rattle.book.specs.declared.Found.TheVariants.{Nothing, At}
+use Rattle.std.specs.Prelude.{Option, None, Some}
 use Rattle.scan.specs.declared.Word.TheVariants.{Rule as RuleWord}
 use Rattle.scan.specs.declared.Alphabet.TheVariants.{EitherCase}
 use Rattle.reader.specs.File.{all_fields, declared, is_found, number_in, literal_number, entry_from, is_literal, has_tilde, malformed}
@@ -65,13 +64,13 @@ head_plain fs h ls part plain = rw (part, plain, not-not (all_fields (is_literal
 -- ---- a name looked up
 
 module _ (names : List (List ℕ)) (f : List ℕ) where
-  pub known_none : find EitherCase names (name_of f) ≡ Nothing → known_of names f ≡ None
+  pub known_none : find EitherCase names (name_of f) ≡ None → known_of names f ≡ None
   unfolding known_of
-  known_none e = ap (λ (x : Found). known_by x (tildes f) (minuses f)) e
+  known_none e = ap (λ (x : Option ℕ). known_by x (tildes f) (minuses f)) e
 
-  pub known_some : (i : ℕ) → find EitherCase names (name_of f) ≡ At i → known_of names f ≡ Some (record { literal = 2 * i + minuses f; tildes = tildes f })
+  pub known_some : (i : ℕ) → find EitherCase names (name_of f) ≡ Some i → known_of names f ≡ Some (record { literal = 2 * i + minuses f; tildes = tildes f })
   unfolding known_of
-  known_some i e = ap (λ (x : Found). known_by x (tildes f) (minuses f)) e
+  known_some i e = ap (λ (x : Option ℕ). known_by x (tildes f) (minuses f)) e
 
   is_known_lem : Option Known → Bool
   is_known_lem None = false
@@ -89,9 +88,9 @@ module _ (names : List (List ℕ)) (f : List ℕ) where
   unfolding known_of is_known_lem
   declared_test = go (find EitherCase names (name_of f))
     where
-      go : (x : Found) → is_found x ≡ is_known_lem (known_by x (tildes f) (minuses f))
-      go Nothing = refl
-      go (At i) = refl
+      go : (x : Option ℕ) → is_found x ≡ is_known_lem (known_by x (tildes f) (minuses f))
+      go None = refl
+      go (Some i) = refl
 
   pub not_declared : known_of names f ≡ None → declared EitherCase names (name_of f) ≡ false
   unfolding is_known_lem
@@ -106,17 +105,17 @@ module _ (names : List (List ℕ)) (f : List ℕ) where
     unfolding known_of literal_known literal_number
     literal_is = go (find EitherCase names (name_of f)) ∙ ap literal_known e
       where
-        go : (x : Found) → 2 * number_in x + minuses f ≡ literal_known (known_by x (tildes f) (minuses f))
-        go Nothing = omega arith
-        go (At i) = refl
+        go : (x : Option ℕ) → 2 * number_in x + minuses f ≡ literal_known (known_by x (tildes f) (minuses f))
+        go None = omega arith
+        go (Some i) = refl
 
     pub tildes_are : tildes f ≡ k.tildes
     unfolding known_of tildes_known
     tildes_are = go (find EitherCase names (name_of f)) ∙ ap tildes_known e
       where
-        go : (x : Found) → tildes f ≡ tildes_known (known_by x (tildes f) (minuses f))
-        go Nothing = refl
-        go (At i) = refl
+        go : (x : Option ℕ) → tildes f ≡ tildes_known (known_by x (tildes f) (minuses f))
+        go None = refl
+        go (Some i) = refl
 
     -- the code that is stored for the field
     pub code_is : code_of (entry_from EitherCase names f) ≡ 2 * k.literal + k.tildes

@@ -21,8 +21,7 @@ use Rattle.scan.specs.declared.Alphabet.TheVariants.{EitherCase}
 use Rattle.book.specs.Limits.{max_names, max_rules, max_entries, max_body}
 use Rattle.book.specs.Book.{find, literal_in}
 use Rattle.book.proofs.Lookup.{found_below}
-use Rattle.book.specs.declared.Found.{Found}
-use Rattle.book.specs.declared.Found.TheVariants.{Nothing, At}
+use Rattle.std.specs.Prelude.{Option, None, Some}
 use Rattle.reader.proofs.FieldCounts.{name_fields, rule_fields}
 use Rattle.reader.specs.File.{Content, nothing_yet, body_literals, all_fields, is_found, declared, malformed, uses_undeclared, beyond_table, line_fault, number_in, literal_number, entry_from, has_tilde, rule_from, extended, with_line, accepted, lines_of, read_file}
 use Rattle.reader.specs.Conditions.{said_by, SaysNothing}
@@ -44,9 +43,9 @@ pub literal_below : (names : List (List ℕ)) (f : List ℕ) → declared Either
 unfolding literal_number
 literal_below names f e = go (find EitherCase names (name_of f)) refl e
   where
-    go : (x : Found) → find EitherCase names (name_of f) ≡ x → is_found x ≡ true → 2 * number_in (find EitherCase names (name_of f)) + minuses f < 2 * length names
-    go Nothing q t = absurd (true≢false (sym t))
-    go (At i) q t = omega (arith, ap number_in q, found_below EitherCase 0 (name_of f) names i q, lead_most 45 (drop (tildes f) f))
+    go : (x : Option ℕ) → find EitherCase names (name_of f) ≡ x → is_found x ≡ true → 2 * number_in (find EitherCase names (name_of f)) + minuses f < 2 * length names
+    go None q t = absurd (true≢false (sym t))
+    go (Some i) q t = omega (arith, ap number_in q, found_below EitherCase 0 (name_of f) names i q, lead_most 45 (drop (tildes f) f))
 
 entry_literal : (names : List (List ℕ)) (f : List ℕ) → literal_in (entry_from EitherCase names f) ≡ literal_number EitherCase names f
 unfolding entry_from

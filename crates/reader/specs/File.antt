@@ -8,8 +8,7 @@ use Rattle.scan.specs.declared.Word.{Word}
 use Rattle.scan.specs.declared.Word.TheVariants.{Name, Rule as RuleWord, End, Unknown}
 use Rattle.book.specs.Limits.{max_names, max_rules, max_entries, max_body}
 use Rattle.book.specs.Book.{find}
-use Rattle.book.specs.declared.Found.{Found}
-use Rattle.book.specs.declared.Found.TheVariants.{Nothing, At}
+use Rattle.std.specs.Prelude.{Option, None, Some}
 
 -- ---- what the lines before have said
 
@@ -38,9 +37,9 @@ is_literal α f = is_name α (name_of f)
 abbrev pub has_tilde : List ℕ → Bool
 has_tilde f = eqb (tildes f) 1
 
-abbrev pub is_found : Found → Bool
-is_found Nothing = false
-is_found (At i) = true
+abbrev pub is_found : Option ℕ → Bool
+is_found None = false
+is_found (Some i) = true
 
 -- a name that an earlier line declares
 abbrev pub declared : Alphabet → List (List ℕ) → List ℕ → Bool
@@ -115,9 +114,9 @@ line_fault α d (first ∷ others) = fault_of α d (word_of first) others
 
 -- ---- what a line that is not faulty adds
 
-abbrev pub number_in : Found → ℕ
-number_in Nothing = 0
-number_in (At i) = i
+abbrev pub number_in : Option ℕ → ℕ
+number_in None = 0
+number_in (Some i) = i
 
 -- name n gives the objective literal 2n, and `-` gives 2n + 1
 unfoldable pub literal_number : Alphabet → List (List ℕ) → List ℕ → ℕ

@@ -8,8 +8,7 @@ use Rattle.scan.specs.declared.Word.{Word}
 use Rattle.scan.specs.declared.Alphabet.TheVariants.{EitherCase}
 use Rattle.book.specs.Limits.{max_names, max_rules, max_entries}
 use Rattle.book.specs.Book.{find, code_of, text_table, length_table, head_table, start_table, entry_table}
-use Rattle.book.specs.declared.Found.{Found}
-use Rattle.book.specs.declared.Found.TheVariants.{Nothing, At}
+use Rattle.std.specs.Prelude.{Option, None, Some}
 use Rattle.keys.specs.Keyed.{Keyed}
 use Rattle.keys.specs.declared.Names.{Names}
 use Rattle.reader.specs.File.{Content, nothing_yet, body_literals, all_fields, is_known, fault_of, line_fault, entry_from, extended, with_line, Outcome, accepted}
@@ -64,9 +63,9 @@ pub record Stored (d : Content) (l : Lists) : Type 0 where
 -- ---- the fields of a rule
 
 -- a field's name looked up: its literal, and how many `~` stand before it
-abbrev pub known_by : Found → ℕ → ℕ → Option Known
-known_by Nothing tilde minus = None
-known_by (At i) tilde minus = Some (record { literal = 2 * i + minus; tildes = tilde })
+abbrev pub known_by : Option ℕ → ℕ → ℕ → Option Known
+known_by None tilde minus = None
+known_by (Some i) tilde minus = Some (record { literal = 2 * i + minus; tildes = tilde })
 
 unfoldable pub known_of : List (List ℕ) → List ℕ → Option Known
 known_of names f = known_by (find EitherCase names (name_of f)) (tildes f) (minuses f)

@@ -13,9 +13,9 @@ ghost use Rattle.reader.specs.Sizing.{SizedAs};
 ghost use Rattle.reader.specs.Tables.{Lists, no_lists, lists_of, with_name, with_entry, with_rule};
 ghost use Rattle.reader.specs.Steps.{no_counts, Fits, Holds, KnownAmong, FieldsKnown, line_step, word_step, LineRead, FileRead};
 
-use book::{Book, Found};
+use book::Book;
 use keys::Names;
-use scan::{Alphabet, Form, Word};
+use scan::{Alphabet, Word};
 
 // The most bytes of a file; `max_bytes` in specs/File.antt is the same number.
 const MAX_BYTES: usize = 60000;
@@ -136,7 +136,7 @@ fn name_line<T: Tables>(
     }
     let count = t.names;
     let key = scan::key_of(name, Alphabet::EitherCase);
-    let Found::Nothing = names.find(count, key) else {
+    let None = names.find(count, key) else {
         return Err(Fault::NameTaken);
     };
     let full = book::MAX_NAMES <= count;
@@ -157,13 +157,7 @@ fn name_line<T: Tables>(
 fn is_literal(f: &[u8]) -> bool
     ensures { result ≡ is_literal EitherCase f.now }
 {
-    match scan::form_of(f) {
-        Form::Literal {
-            tildes: _,
-            minuses: _,
-        } => true,
-        Form::Malformed => false,
-    }
+    scan::form_of(f).is_some()
 }
 
 // Whether every field reads as a literal, and the first, which is the head, has no `~`.
@@ -194,9 +188,7 @@ fn known_of(names: &Names, count: usize, f: &[u8]) -> Option<Known>
     let m = scan::marks_of(f);
     let from = m.tildes + m.minuses;
     let key = scan::key_of(&f[from..], Alphabet::EitherCase);
-    let Found::At(i) = names.find(count, key) else {
-        return None;
-    };
+    let i = names.find(count, key)?;
     Some(Known {
         literal: 2 * i + m.minuses,
         tildes: m.tildes,
@@ -402,7 +394,7 @@ fn read_file<T: Tables>(file: &[u8], tables: &mut T) -> Result<Counts, Refusal>
 pub fn read(file: &[u8]) -> Result<Book, Refusal>
     ensures { LoadedAs (read_file EitherCase file.now) result }
 {
-    let mut book = book::no_book();
+    let mut book = Book::empty();
     let t = read_file(file, &mut book)?;
     book.names = t.names;
     book.rules = t.rules;

@@ -12,6 +12,7 @@ use borrow.Author.Tests.{eq-eqb, ne_eqb}
 use Rattle.scan.specs.Text.{is_name, lead, tildes, minuses, name_of, form_of}
 use Rattle.scan.specs.declared.Alphabet.{Alphabet}
 use Rattle.std.specs.Prelude.{Option, None, Some}
+use Rattle.std.specs.Option.{is_some}
 use Rattle.scan.specs.declared.Marks.{Marks}
 use Rattle.scan.proofs.Places.{left_at}
 
@@ -58,6 +59,15 @@ module _ (α : Alphabet) (f : List ℕ) where
   -- the marks that the field has
   abbrev own : Marks
   own = record { tildes = tildes f; minuses = minuses f }
+
+  -- there are marks exactly where the field reads as a literal
+  pub form_some : is_some (form_of α f) ≡ is_name α (name_of f)
+  unfolding form_of
+  form_some = go (is_name α (name_of f))
+    where
+      go : (t : Bool) → is_some (cond t (Some own) None) ≡ t
+      go true = refl
+      go false = refl
 
   pub malformed_form : form_of α f ≡ None → is_name α (name_of f) ≡ false
   unfolding form_of

@@ -46,7 +46,7 @@ pub returns-then-full : goal.returns-then-full
 returns-then-full g c =
     let at = goal.at.returns-then-full g c in
     λ d h. line_fault_lem (word_step d Name _) TableFull
-    (name_beyond h.counted c.requires.1 _ (named g at.Else-not-is_name) (ap is_found (looked_up g at.After-find d h ∙ c.in-Nothing.is)) (omega (arith, c.if-full.true)))
+    (name_beyond h.counted c.requires.1 _ (named g at.Else-not-is_name) (ap is_found (looked_up g at.After-find d h ∙ c.in-None.is)) (omega (arith, c.if-full.true)))
 
 pub put_name-requires : goal.put_name-requires
 put_name-requires g c = (omega (arith, c.if-full.false), (name_fits EitherCase _ (named g (goal.at.put_name-requires g c).Else-not-is_name)).1)
@@ -57,7 +57,7 @@ returns g c =
     let fine = named g at.Else-not-is_name in
     let room : c.args.t.names < max_names = omega (arith, c.if-full.false) in
     let short = (name_fits EitherCase _ fine).1 in
-    λ d h. let new = looked_up g at.After-find d h ∙ c.in-Nothing.is in
+    λ d h. let new = looked_up g at.After-find d h ∙ c.in-None.is in
     record {
       answer = (
         name_fine h.counted c.requires.1 _ fine (ap is_found new) room,

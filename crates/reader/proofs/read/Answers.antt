@@ -3,4 +3,4 @@ use Rattle.reader.proofs.Held.{loaded_book}
 use Rattle.reader.proofs.read.Goals as goal
 
 pub returns : goal.returns
-returns c = loaded_book c.read_file.new.tables (rw c.no_book-book.ensures at c.in_ok-t.ensures)
+returns c = loaded_book c.read_file.new.tables (rw c.empty-book.ensures at c.in_ok-t.ensures)
