@@ -10,7 +10,8 @@ use Rattle.truth.proofs.Truth.{decided}
 use Rattle.wfsx.specs.Sets.{Set, ◌∈◌, ◌∉◌, ◌∪◌, ◌∖◌, ◌is_in◌, members}
 use Rattle.wfsx.specs.Program.{Rule, positive}
 use Rattle.wfsx.specs.Model.{Γs}
-use Rattle.litset.specs.Words.{capacity}
+use Rattle.std.specs.Prelude.{Option}
+use Rattle.litset.specs.Words.{capacity, from_on}
 use Rattle.book.specs.Limits.{max_names}
 use Rattle.book.specs.Book.{program}
 use Rattle.book.proofs.Rows.{rows_none}
@@ -20,7 +21,7 @@ use Rattle.sheet.specs.declared.SheetEntry.{SheetEntry}
 use Rattle.sheet.specs.declared.Sheet.{Sheet}
 use Rattle.sheet.proofs.Stored.{stored_length, entries_more}
 use Rattle.maker.specs.Result.{MadeFor}
-use Rattle.maker.specs.Making.{from_on, member_entry, passed, none_yet, one_more}
+use Rattle.maker.specs.Making.{member_entry, passed, none_yet, one_more}
 use Rattle.maker.specs.declared.Made.{Made}
 use Rattle.maker.proofs.Rounds.{Making, making_start, with_group, group_covers, with_passes, making_few, made_found, made_none}
 
@@ -82,7 +83,7 @@ module _ (rules : List Rule) (facts : Set) (known names : ℕ) (known_is : known
           rest _ _ E (with_passes rules facts known names known_is few facts_room small grouped (one_more none_yet))
           (omega (arith, ap length e, length-append es written, length-append (es ++ written) (passed known E 0 rules T)))
 
-  pub made_exists : (truth : Bool) (A : ℕ) → (m : Made) × MadeFor rules facts known truth A m
+  pub made_exists : (truth : Bool) (A : ℕ) → (m : Option Made) × MadeFor rules facts known truth A m
   made_exists truth A = go (decided (cond truth (w.T A) (w.F A)))
     where
       w : Whole
@@ -94,6 +95,6 @@ module _ (rules : List Rule) (facts : Set) (known names : ℕ) (known_is : known
       there : Making rules facts known (entries_in table.0.fields (length w.es)) w.T w.F
       there = rw table.1 w.making
 
-      go : (cond truth (w.T A) (w.F A) ≡ true) ⊎ (cond truth (w.T A) (w.F A) ≡ false) → (m : Made) × MadeFor rules facts known truth A m
+      go : (cond truth (w.T A) (w.F A) ≡ true) ⊎ (cond truth (w.T A) (w.F A) ≡ false) → (m : Option Made) × MadeFor rules facts known truth A m
       go (inl e) = (_, made_found rules facts known names known_is few facts_room small table.0.fields (length w.es) there refl refl truth A e)
       go (inr e) = (_, made_none rules facts known names known_is few facts_room small table.0.fields (length w.es) there refl refl truth A w.covers w.last e)

@@ -1,19 +1,15 @@
 -- What the functions of the maker tell each other.
-use Rattle.std.specs.Prelude.{Bool, not, cond, ◌&&◌, List, [], ◌∷◌, ◌++◌, ◌≡◌, ℕ, suc, ◌+◌, eqb, ltb, leb, length}
+use Rattle.std.specs.Prelude.{Bool, not, cond, ◌&&◌, List, [], ◌∷◌, ◌++◌, ◌≡◌, ℕ, suc, ◌+◌, eqb, ltb, length}
 use Rattle.wfsx.specs.Sets.{Set, add}
 use Rattle.wfsx.specs.Program.{Rule}
 use Rattle.wfsx.specs.Model.{every}
-use Rattle.litset.specs.Words.{room, set_of}
+use Rattle.litset.specs.Words.{set_of}
 use Rattle.sheet.specs.Sheet.{shown, fact_number}
 use Rattle.sheet.specs.Flat.{entries_in}
 use Rattle.sheet.specs.declared.SheetEntry.{SheetEntry}
 use Rattle.maker.specs.declared.Grown.{Grown}
 
 -- ---- the entries that are written
-
--- the literals from k on for which a set has room
-abbrev pub from_on : ℕ → Set
-from_on k A = leb k A && room A
 
 -- for the fact A where the kind is 1, and for A in the group g where it is 0
 abbrev pub member_entry : (kind g A : ℕ) → SheetEntry

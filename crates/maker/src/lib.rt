@@ -5,37 +5,22 @@
 ghost use Rattle.std.specs.Prelude.{◌≡◌, cond, [], map, ◌++◌, ◌+◌, ◌*◌, ◌≤◌, ◌<◌, length};
 ghost use Rattle.wfsx.specs.Sets.{members};
 ghost use Rattle.litset.specs.Words.{capacity, set_of};
-ghost use Rattle.book.specs.Limits.{max_names, max_rules};
-ghost use Rattle.book.specs.Book.{rule_at, rules_in, rules_of, names_of};
+ghost use Rattle.book.specs.Limits.{max_names};
+ghost use Rattle.book.specs.Book.{rule_at, rules_of, names_of};
 ghost use Rattle.sheet.specs.Sheet.{max_sheet};
 ghost use Rattle.sheet.specs.Flat.{entries_in};
 ghost use Rattle.maker.specs.Result.{MadeFor};
-ghost use Rattle.maker.specs.Making.{from_on, member_entry, adds, passed, PassOf, Passes};
+ghost use Rattle.maker.specs.Making.{member_entry, adds, passed, PassOf, Passes};
 
 use book::Book;
 use litset::LitSet;
 use sheet::{Sheet, SheetEntry};
 
-// Whether a sheet was found for a claim, how many entries it has, and the sheet.
+// A sheet, and how many entries it has.
 #[derive(Clone, Copy)]
 pub struct Made {
-    pub found: bool,
     pub count: usize,
     pub sheet: Sheet,
-}
-
-// The literals from k on for which a set has room.
-fn from(k: usize) -> LitSet
-    requires { k ≤ capacity }
-    ensures { set_of result.words ≡ from_on k }
-{
-    let mut s = litset::empty();
-    let mut l = k;
-    while l < litset::CAPACITY {
-        s = litset::insert(s, l);
-        l += 1;
-    }
-    s
 }
 
 // ---- facts and groups
@@ -75,15 +60,12 @@ fn put_members(
         × (entries_in fields.new result ≡ entries_in fields.old n ++ map (member_entry kind group) (members known (set_of s.words))) }
 {
     let mut m = n;
-    let mut l: usize = 0;
-    while l < known {
+    for l in 0..known {
         if !litset::contains(s, l) {
-            l += 1;
             continue;
         }
         sheet::put_entry(fields, m, member_entry(kind, group, l));
         m += 1;
-        l += 1;
     }
     m
 }
@@ -91,25 +73,18 @@ fn put_members(
 // ---- rules
 
 // Whether rule r adds its head to t.
-fn rule_adds<'a>(
-    heads: &'a [u16],
-    starts: &'a [u16],
-    entries: &'a [u16],
-    r: usize,
-    known: usize,
-    t: LitSet,
-    f: LitSet,
-) -> bool
-    ensures { result ≡ adds known (set_of t.words) (set_of f.words) (rule_at heads.now starts.now entries.now r) }
+fn rule_adds(book: &Book, r: usize, known: usize, t: LitSet, f: LitSet) -> bool
+    ensures { result
+        ≡ adds known (set_of t.words) (set_of f.words) (rule_at book.now.heads book.now.starts book.now.entries r) }
 {
-    let head = book::head_at(heads, r);
+    let head = book::head_at(&book.heads, r);
     if known <= head {
         return false;
     }
     if litset::contains(t, head) {
         return false;
     }
-    sheet::body_as(starts, entries, r, t, f, true)
+    sheet::body_as(book, r, t, f, true)
 }
 
 // How many entries there are, and the literals of the "true" ones.
@@ -120,31 +95,17 @@ struct Grown {
 }
 
 // One pass over the rules: entries from place n on for those that add their heads.
-fn put_shown<'a>(
-    heads: &'a [u16],
-    starts: &'a [u16],
-    entries: &'a [u16],
-    count: usize,
-    fields: &mut [u16],
-    n: usize,
-    known: usize,
-    t: LitSet,
-    f: LitSet,
-) -> Grown
-    requires { (count ≤ max_rules)
-        × (4 * (n + length (passed known (set_of f.words) 0 (rules_in heads.now starts.now entries.now count) (set_of t.words))) ≤ length fields.old) }
-    ensures { PassOf (rules_in heads.now starts.now entries.now count) known (set_of f.words) (set_of t.words)
-        fields.old n fields.new result }
+fn put_shown(book: &Book, fields: &mut [u16], n: usize, known: usize, t: LitSet, f: LitSet) -> Grown
+    requires { 4 * (n + length (passed known (set_of f.words) 0 (rules_of book.now) (set_of t.words))) ≤ length fields.old }
+    ensures { PassOf (rules_of book.now) known (set_of f.words) (set_of t.words) fields.old n fields.new result }
 {
     let mut m = n;
     let mut truths = t;
-    let mut r: usize = 0;
-    while r < count {
-        if !rule_adds(heads, starts, entries, r, known, truths, f) {
-            r += 1;
+    for r in 0..book::rule_count(*book) {
+        if !rule_adds(book, r, known, truths, f) {
             continue;
         }
-        let head = book::head_at(heads, r);
+        let head = book::head_at(&book.heads, r);
         sheet::put_entry(
             fields,
             m,
@@ -157,33 +118,29 @@ fn put_shown<'a>(
         );
         truths = litset::insert(truths, head);
         m += 1;
-        r += 1;
     }
     Grown { count: m, truths }
 }
 
 // Passes over the rules until one adds nothing.
-fn put_truths<'a>(
-    heads: &'a [u16],
-    starts: &'a [u16],
-    entries: &'a [u16],
-    count: usize,
+fn put_truths(
+    book: &Book,
     fields: &mut [u16],
     n: usize,
     known: usize,
     t: LitSet,
     f: LitSet,
 ) -> Grown
-    requires { (count ≤ max_rules) × (known ≤ 2 * max_names) × (length fields.old ≡ 4 * max_sheet)
+    requires { (known ≤ 2 * max_names) × (length fields.old ≡ 4 * max_sheet)
         × (n ≤ length (members known (set_of t.words)) + length (members known (set_of f.words))) }
-    ensures { Passes (rules_in heads.now starts.now entries.now count) known (set_of f.words)
+    ensures { Passes (rules_of book.now) known (set_of f.words)
         (entries_in fields.old n) (set_of t.words) (entries_in fields.new result.count) (set_of result.truths.words)
-        × (passed known (set_of f.words) 0 (rules_in heads.now starts.now entries.now count) (set_of result.truths.words) ≡ []) }
+        × (passed known (set_of f.words) 0 (rules_of book.now) (set_of result.truths.words) ≡ []) }
 {
     let mut m = n;
     let mut truths = t;
     loop {
-        let s = put_shown(heads, starts, entries, count, fields, m, known, truths, f);
+        let s = put_shown(book, fields, m, known, truths, f);
         if s.count == m {
             return s;
         }
@@ -198,60 +155,38 @@ fn put_truths<'a>(
 fn is_claimed(t: LitSet, f: LitSet, literal: usize, truth: bool) -> bool
     ensures { result ≡ cond truth (set_of t.words literal) (set_of f.words literal) }
 {
-    if truth {
-        return litset::contains(t, literal);
-    }
-    litset::contains(f, literal)
+    litset::contains(if truth { t } else { f }, literal)
 }
 
-// What is made, in a table.
-fn in_table(found: bool, count: usize, fields: [u16; sheet::MAX_FIELDS]) -> Made
-    ensures { result ≡ record { found = found; count = count; sheet = record { fields = fields } } }
+// The sheet for a claim, if there is one. Literals that are not known have no entries, so they count as facts in Γs: then a group follows whatever the book's
+// bits are.
+pub fn make(book: &Book, facts: LitSet, literal: usize, truth: bool) -> Option<Made>
+    ensures { MadeFor (rules_of book.now) (set_of facts.words) (2 * length (names_of book.now)) truth literal result }
 {
-    let sheet = Sheet { fields };
-    Made {
-        found,
-        count,
-        sheet,
-    }
-}
-
-// The sheet for a claim. Literals that are not known have no entries, so they count as facts in Γs: then a group follows whatever the book's bits are.
-pub fn make(book: Book, facts: LitSet, literal: usize, truth: bool) -> Made
-    ensures { MadeFor (rules_of book) (set_of facts.words) (2 * length (names_of book)) truth literal result }
-{
-    let known = 2 * book::name_count(book);
-    let count = book::rule_count(book);
-    let all = from(0);
-    let unknown = from(known);
+    let known = 2 * book::name_count(*book);
+    let all = litset::from(0);
+    let unknown = litset::from(known);
     let mut fields = [0u16; sheet::MAX_FIELDS];
     let mut t = litset::difference(facts, unknown);
     let mut f = litset::empty();
     let mut n = put_members(&mut fields, 0, facts, known, 1, 0);
     loop {
-        let derived = fixpoint::gamma_s(book, litset::union(facts, unknown), t);
+        let derived = fixpoint::gamma_s(*book, litset::union(facts, unknown), t);
         let group = litset::difference(litset::difference(all, derived), f);
         let m = put_members(&mut fields, n, group, known, 0, n as u16);
         f = litset::union(f, group);
-        let s = put_truths(
-            &book.heads,
-            &book.starts,
-            &book.entries,
-            count,
-            &mut fields,
-            m,
-            known,
-            t,
-            f,
-        );
+        let s = put_truths(book, &mut fields, m, known, t, f);
         n = s.count;
         t = s.truths;
         if is_claimed(t, f, literal, truth) {
-            return in_table(true, n, fields);
+            return Some(Made {
+                count: n,
+                sheet: Sheet { fields },
+            });
         }
         let done = n == m;
         if done {
-            return in_table(false, n, fields);
+            return None;
         }
     }
 }
