@@ -139,6 +139,19 @@ filled_more f s i s' h l v e =
     go A k (yes q) = rw q (get_or-set_same s' i v 0 l ∙ e)
     go A k (no n) = get_or-set_other s' i A v 0 n ∙ h.done A (omega arith)
 
+-- a place that has its value already
+pub filled_same : (f : ℕ → ℕ) (s : List ℕ) (i : ℕ) (s' : List ℕ) → FilledTo f s i s' → get_or s i 0 ≡ f i → FilledTo f s (i + 1) s'
+filled_same f s i s' h e =
+    record {
+      room = h.room;
+      done = λ A k. go A k (ℕ_discrete A i);
+      left = λ A k. h.left A (omega arith);
+    }
+  where
+    go : (A : ℕ) → A < i + 1 → Dec (A ≡ i) → get_or s' A 0 ≡ f A
+    go A k (yes q) = rw q (h.left i (omega arith) ∙ e)
+    go A k (no n) = h.done A (omega arith)
+
 module _ (f : ℕ → ℕ) (s : List ℕ) (i : ℕ) (s' : List ℕ) (h : FilledTo f s i s') (all : length s ≤ i) where
   pub filled_is : (r : List ℕ) → length r ≡ length s → ((A : ℕ) → A < length s → get_or r A 0 ≡ f A) → s' ≡ r
   filled_is r l e = ext_get_or 0 s' r (h.room ∙ sym l) (λ A k. h.done A (omega (arith, h.room)) ∙ sym (e A (omega (arith, h.room))))

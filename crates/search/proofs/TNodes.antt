@@ -18,7 +18,8 @@ use Rattle.wfsx.proofs.Ancestors.{t_has, t_fails, t_headless}
 use Rattle.litset.specs.Words.{capacity}
 use Rattle.search.specs.declared.Finding.{Finding}
 use Rattle.search.specs.Marks.{marked, above_in, turned_in, t_left, held_left, is_holds, blanks}
-use Rattle.search.specs.Walk.{State, state, Right, Tables, Resting, stock, left_in, Paid, kept, Spent, Ready, Walked, Says, Visited, TVisit, sure_at, may_at}
+use Rattle.search.specs.declared.State.{State}
+use Rattle.search.specs.Walk.{state, Right, Tables, Resting, stock, left_in, Paid, kept, Spent, Ready, Walked, Says, Visited, TVisit, sure_at, may_at}
 use Rattle.search.proofs.Marks.{marked_at, marked_not, mark_same, mark_added, mark_removed, small_set, turned_room, turned_gone, turned_same, turned_small}
 use Rattle.search.proofs.Answers.{Joined, by_rule, by_fact, by_none, right_proved, right_down, right_failed, right_passed, t_holds, t_not}
 use Rattle.search.proofs.Stock.{t_fact_less, t_mark_less, t_fails_left, t_holds_left}

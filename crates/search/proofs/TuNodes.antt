@@ -25,7 +25,8 @@ use Rattle.litset.specs.Words.{capacity}
 use Rattle.litset.proofs.Words.{compl_small}
 use Rattle.search.specs.declared.Finding.{Finding}
 use Rattle.search.specs.Marks.{marked, above_in, path_in, turned_in, u_left, is_holds, found, leaf_says}
-use Rattle.search.specs.Walk.{State, state, Right, Tables, Resting, Spent, Ready, Walked, Says, Visited, TuVisit, sure_at, may_at}
+use Rattle.search.specs.declared.State.{State}
+use Rattle.search.specs.Walk.{state, Right, Tables, Resting, Spent, Ready, Walked, Says, Visited, TuVisit, sure_at, may_at}
 use Rattle.search.proofs.Marks.{marked_at, marked_not, mark_same, mark_added, mark_removed, small_set, turned_room, turned_gone, turned_same, turned_small}
 use Rattle.search.proofs.Answers.{Joined, by_rule, by_fact, by_none, right_held, t_holds, t_not, u_holds, u_not}
 use Rattle.search.proofs.Stock.{u_mark_less, u_left_lem}
