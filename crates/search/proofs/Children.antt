@@ -17,8 +17,7 @@ use Rattle.search.specs.declared.Tree.{Tree}
 use Rattle.search.specs.declared.Finding.{Finding}
 use Rattle.search.specs.Questions.{tree_of}
 use Rattle.search.specs.Marks.{above_in, found, leaf_says}
-use Rattle.search.specs.declared.State.{State}
-use Rattle.search.specs.Walk.{Ready, Says, Visited, Settled, TVisit, TuVisit, TuSearch, sure_at, may_at}
+use Rattle.search.specs.Walk.{State, Ready, Says, Visited, Settled, TVisit, TuVisit, TuSearch, sure_at, may_at}
 use Rattle.search.proofs.Visits.{paid_holds, paid_fails}
 use Rattle.search.proofs.TuNodes.{leaf_visit}
 

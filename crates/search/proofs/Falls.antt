@@ -13,8 +13,7 @@ use Rattle.wfsx.specs.Program.{Program}
 use Rattle.wfsx.specs.Trees.{Tree, T, TU}
 use Rattle.litset.specs.Words.{capacity}
 use Rattle.search.specs.Marks.{others}
-use Rattle.search.specs.declared.State.{State}
-use Rattle.search.specs.Walk.{Tables, Walked}
+use Rattle.search.specs.Walk.{State, Tables, Walked}
 use Rattle.search.proofs.Marks.{others_same, count_set_less, count_most}
 
 abbrev every_literal : Set

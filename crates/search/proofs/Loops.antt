@@ -19,8 +19,7 @@ use Rattle.index.specs.Index.{rules_end, supported_by}
 use Rattle.index.proofs.Walks.{RulesLeft, rules_more, rules_one}
 use Rattle.search.specs.declared.Finding.{Finding}
 use Rattle.search.specs.Marks.{is_holds, is_fails}
-use Rattle.search.specs.declared.State.{State}
-use Rattle.search.specs.Walk.{Visited, sure_at, may_at}
+use Rattle.search.specs.Walk.{State, Visited, sure_at, may_at}
 use Rattle.search.proofs.Visits.{Going, sure_at_lem, may_at_lem, sure_all, may_all, after_holds, after_fails, ends_with}
 
 pub entry_small : (entries : List ℕ) (j : ℕ) (e : Entry) → entry_is e ≡ entry_at entries j → literal_in (entry_is e) < capacity

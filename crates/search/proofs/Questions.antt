@@ -30,8 +30,7 @@ use Rattle.search.specs.declared.Tree as declared
 use Rattle.search.specs.Questions.{tree_of, question_of, decided_by}
 use Rattle.search.specs.Bound.{most_visits}
 use Rattle.search.specs.Marks.{marked, above_in}
-use Rattle.search.specs.declared.State.{State}
-use Rattle.search.specs.Walk.{state, program_by, rule_by, head_by, Resting, Paid, Ready, TVisit, TuSearch}
+use Rattle.search.specs.Walk.{State, state, program_by, rule_by, head_by, Resting, Paid, Ready, TVisit, TuSearch}
 use Rattle.search.proofs.Marks.{marked_not}
 use Rattle.search.proofs.Answers.{Joined}
 use Rattle.search.proofs.Stock.{left_most}

@@ -16,8 +16,7 @@ use Rattle.wfsx.proofs.Sets.{⊆_antisym}
 use Rattle.litset.specs.Words.{capacity}
 use Rattle.search.specs.declared.Finding.{Finding}
 use Rattle.search.specs.Marks.{marked, turned_in}
-use Rattle.search.specs.declared.State.{State}
-use Rattle.search.specs.Walk.{state, Resting, left_in, kept, Ready, Walked, Says, TVisit, TuVisit, TuSearch}
+use Rattle.search.specs.Walk.{State, state, Resting, left_in, kept, Ready, Walked, Says, TVisit, TuVisit, TuSearch}
 use Rattle.search.proofs.Marks.{marked_is, marked_at, marked_not, turned_room, turned_gone, turned_same, turned_into, turned_small}
 use Rattle.search.proofs.Answers.{right_false}
 use Rattle.search.proofs.Stock.{settled_left, forgotten_left}

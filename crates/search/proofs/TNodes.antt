@@ -7,7 +7,7 @@ use Prim.Native.Nat.{ℕ, ◌+◌, ◌≤◌, ◌<◌}
 use native.Mathlib.Omega.{arith}
 use lib.Dec.{eqb}
 use lib.ListN.{length, get_or, set, length-set}
-use borrow.Author.Tests.{eqb-true, eqb-false}
+use borrow.Author.Tests.{eqb-true, eqb-false, ne_eqb}
 use Rattle.truth.proofs.Truth.{clash}
 use Rattle.wfsx.specs.Sets.{Set, ◌∈◌, ◌∉◌, ∅, add}
 use Rattle.wfsx.specs.Program.{Entry, Program}
@@ -18,15 +18,14 @@ use Rattle.wfsx.proofs.Ancestors.{t_has, t_fails, t_headless}
 use Rattle.litset.specs.Words.{capacity}
 use Rattle.search.specs.declared.Finding.{Finding}
 use Rattle.search.specs.Marks.{marked, above_in, turned_in, t_left, held_left, is_holds, blanks}
-use Rattle.search.specs.declared.State.{State}
-use Rattle.search.specs.Walk.{state, Right, Tables, Resting, stock, left_in, Paid, kept, Spent, Ready, Walked, Says, Visited, TVisit, sure_at, may_at}
+use Rattle.search.specs.Walk.{State, state, Right, Tables, Resting, stock, left_in, Paid, kept, Spent, Ready, Walked, Says, Visited, TVisit, sure_at, may_at}
 use Rattle.search.proofs.Marks.{marked_at, marked_not, mark_same, mark_added, mark_removed, small_set, turned_room, turned_gone, turned_same, turned_small}
 use Rattle.search.proofs.Answers.{Joined, by_rule, by_fact, by_none, right_proved, right_down, right_failed, right_passed, t_holds, t_not}
 use Rattle.search.proofs.Stock.{t_fact_less, t_mark_less, t_fails_left, t_holds_left}
 use Rattle.search.proofs.Visits.{T≢TU, walked_none, paid_none}
 
 -- its mark is known
-pub t_known : {P : Program} {s : State} {over : ℕ} → Ready P T s over → (a : ℕ) → (get_or s.t a 0 ≡ 0 → ⊥) → TVisit P s s a (eqb (get_or s.t a 0) 1)
+t_known : {P : Program} {s : State} {over : ℕ} → Ready P T s over → (a : ℕ) → (get_or s.t a 0 ≡ 0 → ⊥) → TVisit P s s a (eqb (get_or s.t a 0) 1)
 t_known {s = s} r a z =
     record {
       settled = record {
@@ -39,6 +38,12 @@ t_known {s = s} r a z =
       pays = λ e _. absurd (z e);
       less = λ e _. absurd (z e);
     }
+
+pub t_known_holds : {P : Program} {s : State} {over : ℕ} → Ready P T s over → (a : ℕ) → get_or s.t a 0 ≡ 1 → TVisit P s s a true
+t_known_holds r a e = rw e at (t_known r a (λ z. omega arith))
+
+pub t_known_fails : {P : Program} {s : State} {over : ℕ} → Ready P T s over → (a : ℕ) → (get_or s.t a 0 ≡ 0 → ⊥) → (get_or s.t a 0 ≡ 1 → ⊥) → TVisit P s s a false
+t_known_fails {s = s} r a z n = rw (ne_eqb (get_or s.t a 0) 1 n) at (t_known r a z)
 
 -- it is no head: it fails, and nothing is marked
 pub t_bare : {P : Program} {s : State} {over : ℕ} → Ready P T s over → (a : ℕ) → a ∉ headed P → TVisit P s s a false

@@ -11,8 +11,7 @@ use Rattle.wfsx.specs.Model.{every}
 use Rattle.wfsx.specs.Trees.{Tree, T, TU}
 use Rattle.search.specs.declared.Finding.{Finding}
 use Rattle.search.specs.Marks.{is_holds, is_fails}
-use Rattle.search.specs.declared.State.{State}
-use Rattle.search.specs.Walk.{Tables, Resting, Paid, kept, Spent, Ready, Walked, Says, Visited, sure_at, may_at}
+use Rattle.search.specs.Walk.{State, Tables, Resting, Paid, kept, Spent, Ready, Walked, Says, Visited, sure_at, may_at}
 
 pub T≢TU : T ≡ TU → ⊥
 T≢TU e = let z : ◌≡◌ {A = ℕ} 0 1 = cc in omega arith

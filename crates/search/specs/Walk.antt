@@ -1,6 +1,6 @@
 -- What a walk of the trees is handed, what it leaves and what it says (document 01, "From a question to its trees"; document 02, A.6). Each
 -- answer lies between two answers of the trees' own definition, and at the question both are the same.
-use Rattle.std.specs.Prelude.{◌≡◌, Bool, true, false, ◌||◌, List, ℕ, ◌+◌, ◌*◌, ◌≤◌, ◌<◌, ltb, length, get_or, replicate}
+use Rattle.std.specs.Prelude.{◌≡◌, Bool, true, false, ◌||◌, List, ℕ, ◌+◌, ◌*◌, ◌≤◌, ◌<◌, ltb, length, get_or, map, replicate}
 use Rattle.wfsx.specs.Sets.{Set, ◌∈◌, ◌∉◌, ◌⊆◌, ∅}
 use Rattle.wfsx.specs.Program.{Entry, Program}
 use Rattle.wfsx.specs.Model.{headed, head_count}
@@ -9,9 +9,9 @@ use Rattle.litset.specs.Words.{capacity, set_of}
 use Rattle.book.specs.Book.{program}
 use Rattle.index.specs.Index.{rules_start, rules_end, rules_by, supported_by}
 use Rattle.search.specs.Bound.{most_visits}
-use Rattle.search.specs.Marks.{proved_in, failed_in, above_in, false_in, held_in, shut_in, path_in, others, blanks, without}
+use Rattle.search.specs.Marks.{t_code, u_code, proved_in, failed_in, above_in, false_in, held_in, shut_in, path_in, others, blanks, without}
 use Rattle.search.specs.declared.Finding.{Finding}
-use Rattle.search.specs.declared.State.{State}
+use Rattle.search.specs.declared.State as declared
 use Rattle.search.specs.declared.over.Walk.{Walk}
 
 -- ---- what it is handed
@@ -41,8 +41,18 @@ rule_in w = rule_by w.index.now.starts w.index.now.rules
 abbrev pub head_in : Walk → Set
 head_in w = head_by w.index.now.starts w.index.now.rules w.facts.words
 
+-- the two tables of marks by their numbers, and how many nodes have asked their rules
+pub record State : Type 0 where
+  pub t : List ℕ
+  pub u : List ℕ
+  pub visits : ℕ
+
 abbrev pub state : List ℕ → List ℕ → ℕ → State
 state t u visits = record { t = t; u = u; visits = visits }
+
+-- what a `State` of the code says
+abbrev pub coded : declared.State → State
+coded s = state (map t_code s.t) (map u_code s.u) s.visits
 
 -- nothing is marked, and no node has asked its rules
 abbrev pub blank : State

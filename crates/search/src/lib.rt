@@ -3,7 +3,7 @@
 // read.
 #![tactic(auto)]
 
-ghost use Rattle.std.specs.Prelude.{◌≡◌, ◌||◌, ◌<◌, ◌≤◌, length, replicate};
+ghost use Rattle.std.specs.Prelude.{◌≡◌, ◌||◌, ◌<◌, ◌≤◌, length, map};
 ghost use Rattle.wfsx.specs.Sets.{∅};
 ghost use Rattle.wfsx.specs.Model.{every, head_count};
 ghost use Rattle.wfsx.specs.Trees.{tree, answer, T, TU};
@@ -12,8 +12,8 @@ ghost use Rattle.book.specs.Book.{entry_is, literal_in, body_of, program_of};
 ghost use Rattle.index.specs.Index.{supported_by};
 ghost use Rattle.search.specs.Questions.{tree_of, question_of, decided_by};
 ghost use Rattle.search.specs.Bound.{most_visits};
-ghost use Rattle.search.specs.Marks.{turned_in, t_left, held_left, u_left, is_holds, is_fails, found, leaf_says};
-ghost use Rattle.search.specs.Walk.{program_in, rules_in, rule_in, head_in, state, blank, Ready, TVisit, TuVisit, TuSearch, Asked};
+ghost use Rattle.search.specs.Marks.{t_code, turned_mark, t_left, held_left, u_left, is_holds, is_fails, found, leaf_says};
+ghost use Rattle.search.specs.Walk.{program_in, rules_in, rule_in, head_in, state, coded, blank, Ready, TVisit, TuVisit, TuSearch, Asked};
 
 mod over;
 
@@ -122,88 +122,91 @@ impl Finding {
 
 // ---- marks
 
-// Marks of a literal in T-trees: it holds, it fails below the present T-ancestors, it is one of them. 0 is none.
-const PROVED: u8 = 1;
+// What is known of a literal in the trees of one kind, or that it stands above the present node.
+#[derive(Clone, Copy, PartialEq, Eq)]
+enum Mark {
+    Unknown,
+    // In T-trees: it holds, it fails below the present T-ancestors, it is one of them.
+    Proved,
+    Failed,
+    Above,
+    // In TU-trees: it fails whatever stands above it, it holds below the present T-ancestors, it failed in the present tree, it is on the
+    // tree's path.
+    False,
+    Held,
+    Shut,
+    Path,
+}
 
-const FAILED: u8 = 2;
-
-const ABOVE: u8 = 3;
-
-// Marks of a literal in TU-trees: it fails whatever stands above it, it holds below the present T-ancestors, it failed in the present tree,
-// it is on the tree's path. 0 is none.
-const FALSE: u8 = 1;
-
-const HELD: u8 = 2;
-
-const SHUT: u8 = 3;
-
-const PATH: u8 = 4;
+impl Mark {
+    fn turned(self, from: Mark, to: Mark) -> Mark
+        ensures { result ≡ turned_mark from to self }
+    {
+        if self == from { to } else { self }
+    }
+}
 
 // The marks of the literals in T-trees and in TU-trees, and how many nodes have asked their rules.
 #[derive(Clone, Copy)]
 struct State {
-    t: [u8; litset::CAPACITY],
-    u: [u8; litset::CAPACITY],
+    t: [Mark; litset::CAPACITY],
+    u: [Mark; litset::CAPACITY],
     visits: usize,
 }
 
 // Each mark `from` of a table becomes `to`.
-fn turn(marks: &mut [u8; litset::CAPACITY], from: u8, to: u8)
-    requires { (0 < from) × (length marks.old ≡ capacity) }
-    ensures { marks.new ≡ turned_in from to marks.old }
+fn turn(marks: &mut [Mark; litset::CAPACITY], from: Mark, to: Mark)
+    requires { length marks.old ≡ capacity }
+    ensures { marks.new ≡ map (turned_mark from to) marks.old }
 {
     for i in 0..litset::CAPACITY {
-        if marks[i] == from {
-            marks[i] = to;
-        }
+        marks[i] = marks[i].turned(from, to);
     }
 }
 
 impl State {
     // Nothing is marked, and no node has asked.
     fn blank() -> State
-        ensures { result ≡ blank }
+        ensures { coded result ≡ blank }
     {
-        let t = [0u8; litset::CAPACITY];
-        let u = [0u8; litset::CAPACITY];
+        let t = [Mark::Unknown; litset::CAPACITY];
+        let u = [Mark::Unknown; litset::CAPACITY];
         let visits = 0;
         State { t, u, visits }
     }
 
     // The node of a T-tree is left: its literal is no ancestor any more. Where it holds, what failed or was held below it may not be so above it.
-    #[tactic(auto, unfolding(crate::specs::Marks::t_left, crate::specs::Marks::held_left))]
     fn leave_t(&mut self, a: usize, f: Finding)
         requires { (a < capacity) × ((length self.old.t ≡ capacity) × (length self.old.u ≡ capacity)) }
-        ensures { self.new ≡ state (t_left f a self.old.t) (held_left f self.old.u) self.old.visits }
+        ensures { coded self.new ≡ state (t_left f a (coded self.old).t) (held_left f (coded self.old).u) self.old.visits }
     {
         match f {
             Finding::Holds => {
-                turn(&mut self.t, FAILED, 0);
-                turn(&mut self.u, HELD, 0);
-                self.t[a] = PROVED;
+                turn(&mut self.t, Mark::Failed, Mark::Unknown);
+                turn(&mut self.u, Mark::Held, Mark::Unknown);
+                self.t[a] = Mark::Proved;
             }
             Finding::Fails | Finding::Waits(_) => {
-                self.t[a] = FAILED;
+                self.t[a] = Mark::Failed;
             }
         }
     }
 
     // The node of a TU-tree is left: its literal is not on the path any more. Where it holds, what failed below it may not fail above it.
-    #[tactic(auto, unfolding(crate::specs::Marks::u_left))]
     fn leave_u(&mut self, a: usize, f: Finding)
         requires { (a < capacity) × (length self.old.u ≡ capacity) }
-        ensures { self.new ≡ state self.old.t (u_left f a self.old.u) self.old.visits }
+        ensures { coded self.new ≡ state (coded self.old).t (u_left f a (coded self.old).u) self.old.visits }
     {
         match f {
             Finding::Holds => {
-                turn(&mut self.u, SHUT, 0);
-                self.u[a] = HELD;
+                turn(&mut self.u, Mark::Shut, Mark::Unknown);
+                self.u[a] = Mark::Held;
             }
             Finding::Fails => {
-                self.u[a] = SHUT;
+                self.u[a] = Mark::Shut;
             }
             Finding::Waits(_) => {
-                self.u[a] = 0;
+                self.u[a] = Mark::Unknown;
             }
         }
     }
@@ -239,11 +242,13 @@ impl<'a> Walk<'a> {
 
     // What a leaf `not b` of a TU-tree says by the mark of `b` in T-trees. Where there is none a T-tree is wanted first, if `b` is a head; if
     // it is not, it fails, and the leaf holds.
-    fn leaf(&self, mark: u8, b: usize) -> Finding
-        ensures { result ≡ leaf_says (head_in self.now b) mark b }
+    fn leaf(&self, mark: Mark, b: usize) -> Finding
+        ensures { result ≡ leaf_says (head_in self.now b) (t_code mark) b }
     {
-        if mark != 0 {
-            return Finding::of(mark != PROVED);
+        match mark {
+            Mark::Unknown => {}
+            Mark::Proved => return Finding::Fails,
+            _ => return Finding::Holds,
         }
         if self.is_head(litset::contains(self.facts, b), b) {
             return Finding::Waits(b);
@@ -256,22 +261,24 @@ impl<'a> Walk<'a> {
     // A node of a T-tree. A literal that fails leaves all that was found below it true, and one that holds is kept for good.
     #[cycle(walk_trees)]
     fn t_node(&self, s: &mut State, a: usize) -> bool
-        requires { (a < capacity) × Ready (program_in self.now) T s.old (head_count capacity (program_in self.now)) }
-        ensures { TVisit (program_in self.now) s.old s.new a result }
+        requires { (a < capacity) × Ready (program_in self.now) T (coded s.old) (head_count capacity (program_in self.now)) }
+        ensures { TVisit (program_in self.now) (coded s.old) (coded s.new) a result }
     {
         let known = s.t[a];
-        if known != 0 {
-            return known == PROVED;
+        match known {
+            Mark::Unknown => {}
+            Mark::Proved => return true,
+            _ => return false,
         }
         if litset::contains(self.facts, a) {
-            s.t[a] = PROVED;
+            s.t[a] = Mark::Proved;
             return true;
         }
         if !self.is_head(false, a) {
             return false;
         }
         s.visits += 1;
-        s.t[a] = ABOVE;
+        s.t[a] = Mark::Above;
         let f = self.some_rule(s, Tree::T, a);
         s.leave_t(a, f);
         f.holds()
@@ -283,8 +290,8 @@ impl<'a> Walk<'a> {
     // no path of a TU-tree stands above a T-tree, and the stack is linear in the literals.
     #[cycle(walk_trees)]
     fn tu_search(&self, s: &mut State, a: usize) -> bool
-        requires { (a < capacity) × Ready (program_in self.now) T s.old 0 }
-        ensures { TuSearch (program_in self.now) s.old s.new a result }
+        requires { (a < capacity) × Ready (program_in self.now) T (coded s.old) 0 }
+        ensures { TuSearch (program_in self.now) (coded s.old) (coded s.new) a result }
     {
         loop {
             match self.tu_node(s, a) {
@@ -292,11 +299,11 @@ impl<'a> Walk<'a> {
                     return true;
                 }
                 Finding::Fails => {
-                    turn(&mut s.u, SHUT, FALSE);
+                    turn(&mut s.u, Mark::Shut, Mark::False);
                     return false;
                 }
                 Finding::Waits(l) => {
-                    turn(&mut s.u, SHUT, 0);
+                    turn(&mut s.u, Mark::Shut, Mark::Unknown);
                     self.t_node(s, l);
                 }
             }
@@ -306,12 +313,14 @@ impl<'a> Walk<'a> {
     // A node of a TU-tree. The added leaf, `not` of the complement, is asked for once and not under each rule (`complement_once`).
     #[cycle(walk_trees)]
     fn tu_node(&self, s: &mut State, a: usize) -> Finding
-        requires { (a < capacity) × Ready (program_in self.now) TU s.old 0 }
-        ensures { TuVisit (program_in self.now) s.old s.new a result }
+        requires { (a < capacity) × Ready (program_in self.now) TU (coded s.old) 0 }
+        ensures { TuVisit (program_in self.now) (coded s.old) (coded s.new) a result }
     {
         let known = s.u[a];
-        if known != 0 {
-            return Finding::of(known == HELD);
+        match known {
+            Mark::Unknown => {}
+            Mark::Held => return Finding::Holds,
+            _ => return Finding::Fails,
         }
         let fact = litset::contains(self.facts, a);
         if !self.is_head(fact, a) {
@@ -326,7 +335,7 @@ impl<'a> Walk<'a> {
             return Finding::Holds;
         }
         s.visits += 1;
-        s.u[a] = PATH;
+        s.u[a] = Mark::Path;
         let f = self.some_rule(s, Tree::Tu, a);
         s.leave_u(a, f);
         f
@@ -337,8 +346,8 @@ impl<'a> Walk<'a> {
     // Whether all children under some rule for `a` hold.
     #[cycle(walk_trees)]
     fn some_rule(&self, s: &mut State, kind: Tree, a: usize) -> Finding
-        requires { Ready (program_in self.now) (tree_of kind) s.old 0 }
-        ensures { Asked (program_in self.now) (tree_of kind) s.old s.new (λ test. rules_in self.now test a) result }
+        requires { Ready (program_in self.now) (tree_of kind) (coded s.old) 0 }
+        ensures { Asked (program_in self.now) (tree_of kind) (coded s.old) (coded s.new) (λ test. rules_in self.now test a) result }
     {
         let end = index::rules_end(&self.index.starts, &self.index.rules, a);
         for p in index::rules_start(&self.index.starts, a)..end {
@@ -353,8 +362,8 @@ impl<'a> Walk<'a> {
     // Whether all children under rule `i` hold.
     #[cycle(walk_trees)]
     fn all_children(&self, s: &mut State, kind: Tree, i: usize) -> Finding
-        requires { Ready (program_in self.now) (tree_of kind) s.old 0 }
-        ensures { Asked (program_in self.now) (tree_of kind) s.old s.new
+        requires { Ready (program_in self.now) (tree_of kind) (coded s.old) 0 }
+        ensures { Asked (program_in self.now) (tree_of kind) (coded s.old) (coded s.new)
             (λ test. every test (body_of self.now.book.now.starts self.now.book.now.entries i)) result }
     {
         let end = book::body_end(&self.book.starts, &self.book.entries, i);
@@ -371,8 +380,8 @@ impl<'a> Walk<'a> {
     // (`first_way`). A leaf of a TU-tree opens nothing itself.
     #[cycle(walk_trees)]
     fn child(&self, s: &mut State, kind: Tree, e: Entry) -> Finding
-        requires { (literal_in (entry_is e) < capacity) × Ready (program_in self.now) (tree_of kind) s.old 0 }
-        ensures { Asked (program_in self.now) (tree_of kind) s.old s.new (λ test. test (entry_is e)) result }
+        requires { (literal_in (entry_is e) < capacity) × Ready (program_in self.now) (tree_of kind) (coded s.old) 0 }
+        ensures { Asked (program_in self.now) (tree_of kind) (coded s.old) (coded s.new) (λ test. test (entry_is e)) result }
     {
         match (kind, e) {
             (Tree::T, Entry::Positive(b)) => Finding::of(self.t_node(s, b)),

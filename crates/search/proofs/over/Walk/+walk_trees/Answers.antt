@@ -1,17 +1,20 @@
 -- The walk, as one cycle of calls: each visit leaves and says what the laws have for its way through the code, if the calls below it do,
 -- and each call has a smaller falling number (`Falls`).
-use Rattle.std.proofs.Common.{◌<◌, ◌∙◌, sym, ap, refl, arith}
+use Rattle.std.proofs.Common.{◌≡◌, ◌<◌, ◌∙◌, List, map, sym, ap, refl, arith}
+use Rattle.search.specs.declared.Mark.{Mark}
+use Rattle.search.specs.declared.Mark.TheVariants.{Unknown, Proved, Above, False, Held, Shut, Path}
 use Rattle.litset.specs.Words.{capacity}
 use Rattle.litset.proofs.Words.{compl_small}
 use Rattle.book.proofs.Bodies.{body_over}
 use Rattle.index.proofs.Walks.{rules_first, rules_over}
 use Rattle.search.specs.Questions.{tree_of}
-use Rattle.search.specs.Marks.{is_holds}
-use Rattle.search.specs.Walk.{program_in}
+use Rattle.search.specs.Marks.{t_code, u_code, turned_mark, turned_in, is_holds}
+use Rattle.search.specs.Walk.{program_in, coded}
+use Rattle.search.proofs.Codes.{code_write, t_read, t_is, t_other, u_is, u_other, u_turned}
 use Rattle.search.proofs.Stock.{most_small}
 use Rattle.search.proofs.Visits.{going_none, going_ready, going_holds, going_fails}
-use Rattle.search.proofs.TNodes.{t_known, t_bare, t_fact, t_ready, t_leaves}
-use Rattle.search.proofs.TuNodes.{u_known, u_bare, u_leaf, u_fact, u_ready, u_leaves}
+use Rattle.search.proofs.TNodes.{t_known_holds, t_known_fails, t_bare, t_fact, t_ready, t_leaves}
+use Rattle.search.proofs.TuNodes.{u_known_holds, u_known_fails, u_bare, u_leaf, u_fact, u_ready, u_leaves}
 use Rattle.search.proofs.Searches.{search_ready, search_holds, search_fails, search_walked, search_opens, search_again}
 use Rattle.search.proofs.Falls.{child_size_same, t_falls, tu_falls, search_tu_falls, search_t_falls, T-t_falls, T-search_falls, TU-tu_falls}
 use Rattle.search.proofs.Children.{ready_T, ready_TU, positive_small, default_small, T-positive, T-default, TU-positive, TU-default}
@@ -76,7 +79,7 @@ child-returns-in-Tu-Default t c =
     let long = c.args.self.now.sized in
     let entry = c.in-Tu-Default.is-1 in
     let small = default_small _ _ entry c.requires.0 in
-    rw c.leaf.ensures (TU-default _ _ _ c.in-Tu-Default.is-0 entry small _ (headed_is _ _ _ _ _ long _ small) c.requires.1)
+    rw (c.leaf.ensures, ← t_read c.args.s.now.t c.in-Tu-Default.b) (TU-default _ _ _ c.in-Tu-Default.is-0 entry small _ (headed_is _ _ _ _ _ long _ small) c.requires.1)
 
 -- the rules of a literal
 
@@ -105,14 +108,17 @@ some_rule-returns t c =
 
 -- a node of a T-tree
 
-pub t_node-returns-then-known-ne0 : goal.t_node-returns-then-known-ne0
-t_node-returns-then-known-ne0 t c = t_known c.requires.1 _ c.if-known-ne0.true
+pub t_node-returns-in-Proved : goal.t_node-returns-in-Proved
+t_node-returns-in-Proved t c = t_known_holds c.requires.1 _ (t_is c.args.s.now.t c.args.a Proved c.in-Proved.is)
+
+pub t_node-returns-in_default : goal.t_node-returns-in_default
+t_node-returns-in_default t c = t_known_fails c.requires.1 _ (t_other c.args.s.now.t c.args.a Unknown c.in_default.not-Unknown) (t_other c.args.s.now.t c.args.a Proved c.in_default.not-Proved)
 
 pub t_node-returns-then-contains : goal.t_node-returns-then-contains
 t_node-returns-then-contains t c =
     let long = c.args.self.now.sized in
-    let s = c.args.s.now in
-    t_fact (joined_by _ _ _ _ _ long) s.t s.u s.visits c.requires.1 _ c.requires.0 c.if-known-ne0.false (sym c.contains.ensures ∙ c.if-contains.true)
+    let s = coded c.args.s.now in
+    rw (code_write t_code c.args.s.now.t c.args.a Proved) (t_fact (joined_by _ _ _ _ _ long) s.t s.u s.visits c.requires.1 _ c.requires.0 (t_is c.args.s.now.t c.args.a Unknown c.in-Unknown.is) (sym c.contains.ensures ∙ c.if-contains.true))
 
 pub t_node-returns-then-not-is_head : goal.t_node-returns-then-not-is_head
 t_node-returns-then-not-is_head t c =
@@ -128,25 +134,29 @@ pub t_node-some_rule-f-requires : goal.t_node-some_rule-f-requires
 t_node-some_rule-f-requires t c =
     let long = c.args.self.now.sized in
     let headed = headed_by _ _ _ _ _ long _ c.requires.0 _ _ (sym c.if-contains.false ∙ c.contains.ensures) c.is_head.ensures in
-    let zero = c.if-known-ne0.false in
-    let s = c.args.s.now in (
-      t_falls c.requires.1.tables _ c.requires.0 zero _ _ c.decreases,
-      t_ready (joined_by _ _ _ _ _ long) s.t s.u s.visits c.requires.1 _ c.requires.0 zero (headed ∙ c.if-not-is_head.false),
+    let zero = t_is c.args.s.now.t c.args.a Unknown c.in-Unknown.is in
+    let write = code_write t_code c.args.s.now.t c.args.a Above in
+    let s = coded c.args.s.now in (
+      rw write (t_falls c.requires.1.tables _ c.requires.0 zero _ _ c.decreases),
+      rw write (t_ready (joined_by _ _ _ _ _ long) s.t s.u s.visits c.requires.1 _ c.requires.0 zero (headed ∙ c.if-not-is_head.false)),
     )
 
 pub t_node-returns : goal.t_node-returns
 t_node-returns t c =
     let long = c.args.self.now.sized in
     let headed = headed_by _ _ _ _ _ long _ c.requires.0 _ _ (sym c.if-contains.false ∙ c.contains.ensures) c.is_head.ensures in
-    let s = c.args.s.now in
-    let below = c.some_rule-f.new.s in
-    rw (c.holds.ensures, c.leave_t.ensures) (t_leaves (joined_by _ _ _ _ _ long) s.t s.u s.visits c.requires.1 _ c.requires.0 c.if-known-ne0.false (headed ∙ c.if-not-is_head.false)
-    (sym c.contains.ensures ∙ c.if-contains.false) below.t below.u below.visits _ c.some_rule-f.ensures _ _ refl refl)
+    let s = coded c.args.s.now in
+    let below = coded c.some_rule-f.new.s in
+    rw (c.holds.ensures, c.leave_t.ensures) (t_leaves (joined_by _ _ _ _ _ long) s.t s.u s.visits c.requires.1 _ c.requires.0 (t_is c.args.s.now.t c.args.a Unknown c.in-Unknown.is) (headed ∙ c.if-not-is_head.false)
+    (sym c.contains.ensures ∙ c.if-contains.false) below.t below.u below.visits _ (rw (code_write t_code c.args.s.now.t c.args.a Above) at c.some_rule-f.ensures) _ _ refl refl)
 
 -- a node of a TU-tree
 
-pub tu_node-returns-then-known-ne0 : goal.tu_node-returns-then-known-ne0
-tu_node-returns-then-known-ne0 t c = rw c.of.ensures (u_known c.requires.1 _ c.if-known-ne0.true)
+pub tu_node-returns-in-Held : goal.tu_node-returns-in-Held
+tu_node-returns-in-Held t c = u_known_holds c.requires.1 _ (u_is c.args.s.now.u c.args.a Held c.in-Held.is)
+
+pub tu_node-returns-in_default : goal.tu_node-returns-in_default
+tu_node-returns-in_default t c = u_known_fails c.requires.1 _ (u_other c.args.s.now.u c.args.a Unknown c.in_default.not-Unknown) (u_other c.args.s.now.u c.args.a Held c.in_default.not-Held)
 
 pub tu_node-returns-then-not-is_head : goal.tu_node-returns-then-not-is_head
 tu_node-returns-then-not-is_head t c =
@@ -161,7 +171,7 @@ pub tu_node-returns-then-not-holds : goal.tu_node-returns-then-not-holds
 tu_node-returns-then-not-holds t c =
     let long = c.args.self.now.sized in
     let other : c.complement-other.result < capacity = omega (arith, compl_small _ c.requires.0, c.complement-other.ensures) in
-    let says = c.leaf-added.ensures in
+    let says = rw (← t_read c.args.s.now.t c.complement-other.result) at c.leaf-added.ensures in
     rw says (u_leaf c.requires.1 _ c.requires.0 _ c.complement-other.ensures _ (headed_is _ _ _ _ _ long _ other)
     (ap is_holds (sym says) ∙ sym c.holds.ensures ∙ c.if-not-holds.true))
 
@@ -169,7 +179,8 @@ pub tu_node-returns-then-fact : goal.tu_node-returns-then-fact
 tu_node-returns-then-fact t c =
     let long = c.args.self.now.sized in
     let other : c.complement-other.result < capacity = omega (arith, compl_small _ c.requires.0, c.complement-other.ensures) in
-    let leaf = ap is_holds (sym c.leaf-added.ensures) ∙ sym c.holds.ensures ∙ c.if-not-holds.false in
+    let says = rw (← t_read c.args.s.now.t c.complement-other.result) at c.leaf-added.ensures in
+    let leaf = ap is_holds (sym says) ∙ sym c.holds.ensures ∙ c.if-not-holds.false in
     u_fact c.requires.1 _ c.requires.0 _ c.complement-other.ensures _ (headed_is _ _ _ _ _ long _ other) (joined_by _ _ _ _ _ long) leaf
     (sym c.contains-fact.ensures ∙ c.if-fact.true)
 
@@ -181,10 +192,11 @@ pub tu_node-some_rule-f-requires : goal.tu_node-some_rule-f-requires
 tu_node-some_rule-f-requires t c =
     let long = c.args.self.now.sized in
     let headed = headed_by _ _ _ _ _ long _ c.requires.0 _ _ c.contains-fact.ensures c.is_head.ensures in
-    let zero = c.if-known-ne0.false in
-    let s = c.args.s.now in (
-      tu_falls c.requires.1.tables _ c.requires.0 zero _ c.decreases,
-      u_ready (joined_by _ _ _ _ _ long) s.t s.u s.visits c.requires.1 _ c.requires.0 zero (headed ∙ c.if-not-is_head.false),
+    let zero = u_is c.args.s.now.u c.args.a Unknown c.in-Unknown.is in
+    let write = code_write u_code c.args.s.now.u c.args.a Path in
+    let s = coded c.args.s.now in (
+      rw write (tu_falls c.requires.1.tables _ c.requires.0 zero _ c.decreases),
+      rw write (u_ready (joined_by _ _ _ _ _ long) s.t s.u s.visits c.requires.1 _ c.requires.0 zero (headed ∙ c.if-not-is_head.false)),
     )
 
 pub tu_node-returns : goal.tu_node-returns
@@ -192,14 +204,18 @@ tu_node-returns t c =
     let long = c.args.self.now.sized in
     let other : c.complement-other.result < capacity = omega (arith, compl_small _ c.requires.0, c.complement-other.ensures) in
     let headed = headed_by _ _ _ _ _ long _ c.requires.0 _ _ c.contains-fact.ensures c.is_head.ensures in
-    let leaf = ap is_holds (sym c.leaf-added.ensures) ∙ sym c.holds.ensures ∙ c.if-not-holds.false in
-    let s = c.args.s.now in
-    let below = c.some_rule-f.new.s in
-    rw c.leave_u.ensures (u_leaves (joined_by _ _ _ _ _ long) s.t s.u s.visits c.requires.1 _ c.requires.0 c.if-known-ne0.false (headed ∙ c.if-not-is_head.false)
+    let says = rw (← t_read c.args.s.now.t c.complement-other.result) at c.leaf-added.ensures in
+    let leaf = ap is_holds (sym says) ∙ sym c.holds.ensures ∙ c.if-not-holds.false in
+    let s = coded c.args.s.now in
+    let below = coded c.some_rule-f.new.s in
+    rw c.leave_u.ensures (u_leaves (joined_by _ _ _ _ _ long) s.t s.u s.visits c.requires.1 _ c.requires.0 (u_is c.args.s.now.u c.args.a Unknown c.in-Unknown.is) (headed ∙ c.if-not-is_head.false)
     _ c.complement-other.ensures _ (headed_is _ _ _ _ _ long _ other) leaf (sym c.contains-fact.ensures ∙ c.if-fact.false)
-    below.t below.u below.visits _ c.some_rule-f.ensures _ refl)
+    below.t below.u below.visits _ (rw (code_write u_code c.args.s.now.u c.args.a Path) at c.some_rule-f.ensures) _ refl)
 
 -- the search of the TU-trees
+
+turned-there : (from to : Mark) (marks : List Mark) {marks' : List Mark} → marks' ≡ map (turned_mark from to) marks → map u_code marks' ≡ turned_in (u_code from) (u_code to) (map u_code marks)
+turned-there from to marks e = ap (map u_code) e ∙ u_turned from to marks
 
 pub tu_search-tu_node-requires : goal.tu_search-tu_node-requires
 tu_search-tu_node-requires t c =
@@ -210,14 +226,14 @@ pub tu_search-returns-in-Holds : goal.tu_search-returns-in-Holds
 tu_search-returns-in-Holds t c = search_holds c.loop-s.invariant _ _ _ _ _ c.in-Holds.is c.tu_node.ensures
 
 pub tu_search-returns-in-Fails : goal.tu_search-returns-in-Fails
-tu_search-returns-in-Fails t c = search_fails c.loop-s.invariant _ _ _ _ _ c.turn.ensures _ c.in-Fails.is c.tu_node.ensures
+tu_search-returns-in-Fails t c = search_fails c.loop-s.invariant _ _ _ _ _ (turned-there Shut False c.tu_node.new.s.u c.turn.ensures) _ c.in-Fails.is c.tu_node.ensures
 
 pub tu_search-t_node-requires : goal.tu_search-t_node-requires
 tu_search-t_node-requires t c =
     let inv = c.loop-s.invariant in
     let waits = c.in-Waits.is in
     let node = c.tu_node.ensures in
-    let turned = c.turn-in-Waits.ensures in
+    let turned = turned-there Shut Unknown c.tu_node.new.s.u c.turn-in-Waits.ensures in
     let opens = search_opens inv _ _ _ _ _ turned _ _ waits node c.requires.1 in
     (search_t_falls c.requires.1.tables (search_walked inv _ _ _ _ _ turned _ _ waits node) _ c.decreases, (opens.1.0, opens.0))
 
@@ -226,7 +242,7 @@ tu_search-loop-s-smaller t c =
     let inv = c.loop-s.invariant in
     let waits = c.in-Waits.is in
     let node = c.tu_node.ensures in
-    let turned = c.turn-in-Waits.ensures in
+    let turned = turned-there Shut Unknown c.tu_node.new.s.u c.turn-in-Waits.ensures in
     (search_again inv _ _ _ _ _ turned _ _ waits node c.t_node.ensures (search_opens inv _ _ _ _ _ turned _ _ waits node c.requires.1).1.1).1
 
 pub tu_search-loop-s-preserved : goal.tu_search-loop-s-preserved
@@ -234,5 +250,5 @@ tu_search-loop-s-preserved t c =
     let inv = c.loop-s.invariant in
     let waits = c.in-Waits.is in
     let node = c.tu_node.ensures in
-    let turned = c.turn-in-Waits.ensures in
+    let turned = turned-there Shut Unknown c.tu_node.new.s.u c.turn-in-Waits.ensures in
     (search_again inv _ _ _ _ _ turned _ _ waits node c.t_node.ensures (search_opens inv _ _ _ _ _ turned _ _ waits node c.requires.1).1.1).0
