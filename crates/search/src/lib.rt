@@ -96,17 +96,19 @@ enum Finding {
     Waits(usize),
 }
 
-impl Finding {
-    fn of(holds: bool) -> Finding
-        ensures { result ≡ found holds }
-    {
+impl From<bool> for Finding {
+    ghost from_gives = { λ holds f. f ≡ found holds };
+
+    fn from(holds: bool) -> Finding {
         if holds {
             Finding::Holds
         } else {
             Finding::Fails
         }
     }
+}
 
+impl Finding {
     fn holds(self) -> bool
         ensures { result ≡ is_holds self }
     {
@@ -384,8 +386,8 @@ impl<'a> Walk<'a> {
         ensures { Asked (program_in self.now) (tree_of kind) (coded s.old) (coded s.new) (λ test. test (entry_is e)) result }
     {
         match (kind, e) {
-            (Tree::T, Entry::Positive(b)) => Finding::of(self.t_node(s, b)),
-            (Tree::T, Entry::Default(b)) => Finding::of(!self.tu_search(s, b)),
+            (Tree::T, Entry::Positive(b)) => Finding::from(self.t_node(s, b)),
+            (Tree::T, Entry::Default(b)) => Finding::from(!self.tu_search(s, b)),
             (Tree::Tu, Entry::Positive(b)) => self.tu_node(s, b),
             (Tree::Tu, Entry::Default(b)) => self.leaf(s.t[b], b),
         }

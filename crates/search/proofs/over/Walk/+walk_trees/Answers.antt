@@ -55,7 +55,7 @@ child-t_node-requires t c =
 
 pub child-returns-in-T-Positive : goal.child-returns-in-T-Positive
 child-returns-in-T-Positive t c =
-    rw c.of.ensures (T-positive _ _ _ c.in-T-Positive.is-0 c.in-T-Positive.is-1 _ c.t_node.ensures)
+    rw c.from.ensures (T-positive _ _ _ c.in-T-Positive.is-0 c.in-T-Positive.is-1 _ c.t_node.ensures)
 
 pub child-tu_node-requires : goal.child-tu_node-requires
 child-tu_node-requires t c =
@@ -72,7 +72,7 @@ child-tu_search-requires t c =
 
 pub child-returns-in-T-Default : goal.child-returns-in-T-Default
 child-returns-in-T-Default t c =
-    rw c.of-in-T-Default.ensures (T-default _ _ _ c.in-T-Default.is-0 c.in-T-Default.is-1 _ c.tu_search.ensures)
+    rw c.from-in-T-Default.ensures (T-default _ _ _ c.in-T-Default.is-0 c.in-T-Default.is-1 _ c.tu_search.ensures)
 
 pub child-returns-in-Tu-Default : goal.child-returns-in-Tu-Default
 child-returns-in-Tu-Default t c =
