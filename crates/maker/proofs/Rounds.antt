@@ -91,22 +91,22 @@ module _ (rules : List Rule) (known : ℕ) (F : Set) where
 -- ---- the loop of the passes
 
 -- m entries stand in the table
-pub record Grew (rules : List Rule) (known : ℕ) (F : Set) (before : List SheetEntry) (T : Set) (fields : List ℕ) (m : ℕ) (U : Set) : Type 0 where
-  pub passes : Passes rules known F before T (entries_in fields m) U
+pub record Grew (rules : List Rule) (known : ℕ) (F : Set) (before : List SheetEntry) (T : Set) (table : List SheetEntry) (m : ℕ) (U : Set) : Type 0 where
+  pub passes : Passes rules known F before T (entries_in table m) U
   pub bounded : m ≤ size_below known U + size_below known F
-  pub as_long : length fields ≡ 4 * max_sheet
+  pub as_long : length table ≡ max_sheet
 
 module _ {rules : List Rule} {known : ℕ} {F : Set} {T : Set} (few : known ≤ 2 * max_names) where
-  module _ {before : List SheetEntry} {fields : List ℕ} {m : ℕ} {U : Set} (g : Grew rules known F before T fields m U) where
+  module _ {before : List SheetEntry} {table : List SheetEntry} {m : ℕ} {U : Set} (g : Grew rules known F before T table m U) where
     abbrev W : List SheetEntry
     W = passed known F 0 rules U
 
     -- a pass has room
-    pub grew_room : 4 * (m + length W) ≤ length fields
+    pub grew_room : m + length W ≤ length table
     grew_room = omega (arith, g.bounded, g.as_long, passed_most known F 0 rules U, length_most (with_literals W U) 0 known, length_most F 0 known)
 
-    module _ (after : List ℕ) {k : ℕ} {X : Set} (count : k ≡ m + length W) (es : entries_in after k ≡ entries_in fields m ++ W) (lits : X ≡ with_literals W U)
-        (as_long : length after ≡ length fields) where
+    module _ (after : List SheetEntry) {k : ℕ} {X : Set} (count : k ≡ m + length W) (es : entries_in after k ≡ entries_in table m ++ W) (lits : X ≡ with_literals W U)
+        (as_long : length after ≡ length table) where
       next : Passes rules known F before T (entries_in after k) X
       next = subst (λ X. X) (ap₂ (λ (l : List SheetEntry) (Y : Set). Passes rules known F before T l Y) (sym es) (sym lits)) (one_more g.passes)
 
@@ -314,7 +314,7 @@ module _ (rules : List Rule) (facts : Set) (known names : ℕ) (known_is : known
       group_fits : length es + size_below known G ≤ size_below known T + size_below known E
       group_fits = omega (arith, s.bounded, group_size T s.truths_known F G the_group, ap (size_below known) E-is)
 
-      pub group_room : 4 * (length es + size_below known G) ≤ 4 * max_sheet
+      pub group_room : length es + size_below known G ≤ max_sheet
       group_room = omega (arith, known_is, group_fits, length_most T 0 known, length_most E 0 known)
 
       pub with_group : Making rules facts known (es ++ map (member_entry 0 (length es)) (members known G)) T E
@@ -388,13 +388,13 @@ module _ (rules : List Rule) (facts : Set) (known names : ℕ) (known_is : known
 
   -- ---- in a table
 
-  pub start_there : (before after : List ℕ) (n : ℕ) {T F : Set} → T ≡ facts ∖ from_on known → F ≡ ∅
+  pub start_there : (before after : List SheetEntry) (n : ℕ) {T F : Set} → T ≡ facts ∖ from_on known → F ≡ ∅
       → entries_in after n ≡ entries_in before 0 ++ map (member_entry 1 0) (members known facts) → Making rules facts known (entries_in after n) T F
   start_there before after n t f es = rw (es, rows_none (entry_in before) 0) (making_start t f)
 
-  module _ (fields : List ℕ) (n : ℕ) {T F : Set} (s : Making rules facts known (entries_in fields n) T F) where
-    size : length (entries_in fields n) ≡ n
-    size = rows_length (entry_in fields) 0 n
+  module _ (table : List SheetEntry) (n : ℕ) {T F : Set} (s : Making rules facts known (entries_in table n) T F) where
+    size : length (entries_in table n) ≡ n
+    size = rows_length (entry_in table) 0 n
 
     pub few_there : n ≤ 2 * known
     few_there = omega (arith, size, making_few s)
@@ -403,17 +403,17 @@ module _ (rules : List Rule) (facts : Set) (known names : ℕ) (known_is : known
     bound_there = omega (arith, size, s.bounded)
 
     module _ {D G E : Set} (D-is : D ≡ Γs Q T) {all : Set} (all-is : all ≡ from_on 0) (G-is : G ≡ (all ∖ D) ∖ F) (E-is : E ≡ F ∪ G) where
-      pub room_there : length fields ≡ 4 * max_sheet → 4 * (n + size_below known G) ≤ length fields
+      pub room_there : length table ≡ max_sheet → n + size_below known G ≤ length table
       room_there l = omega (arith, size, group_room s D-is all-is G-is E-is)
 
-      pub group_there : (after : List ℕ) (m : ℕ) → entries_in after m ≡ entries_in fields n ++ map (member_entry 0 n) (members known G)
+      pub group_there : (after : List SheetEntry) (m : ℕ) → entries_in after m ≡ entries_in table n ++ map (member_entry 0 n) (members known G)
           → Making rules facts known (entries_in after m) T E
       group_there after m es = rw es (rw size at (with_group s D-is all-is G-is E-is))
 
     -- ---- what is made
 
     module _ {rs : List Rule} {k : ℕ} (rules_are : rules ≡ rs) (is : known ≡ k) (truth : Bool) (A : ℕ) where
-      pub made_found : cond truth (T A) (F A) ≡ true → MadeFor rs facts k truth A (Some (record { count = n; sheet = record { fields = fields } }))
+      pub made_found : cond truth (T A) (F A) ≡ true → MadeFor rs facts k truth A (Some (record { count = n; sheet = record { entries = table } }))
       made_found c = rw (← rules_are, ← is) (record { few = few_there; passes = making_passes s truth A c; complete = λ w l so. refl })
 
       pub made_none : ((B : ℕ) → B < capacity → B ∉ Γs Q T → B ∈ F) → passed known F 0 rules T ≡ [] → cond truth (T A) (F A) ≡ false → MadeFor rs facts k truth A None
@@ -441,10 +441,10 @@ known_names : (b : Book) {m : ℕ} → m ≡ clamp max_names b.names → 2 * m �
 known_names b counted = ap (λ (i : ℕ). 2 * i) (counted ∙ sym (names_counted b))
 
 -- The book has m names, its sheet the first n entries of a table, and the sets are as they are worked out one from the other. The last is the group.
-pub record Round (b : Book) (facts : Set) (m : ℕ) (fields : List ℕ) (n : ℕ) (T F G : Set) : Type 0 where
+pub record Round (b : Book) (facts : Set) (m : ℕ) (table : List SheetEntry) (n : ℕ) (T F G : Set) : Type 0 where
   pub few : m ≤ max_names
   pub facts_room : (A : ℕ) → A ∈ facts → A < capacity
-  pub making : Making (rules_of b) facts (2 * m) (entries_in fields n) T F
+  pub making : Making (rules_of b) facts (2 * m) (entries_in table n) T F
   pub derived : Set
   pub derived_are : derived ≡ Γs (program (rules_of b) (facts ∪ from_on (2 * m))) T
   pub group_are : G ≡ (from_on 0 ∖ derived) ∖ F
@@ -456,17 +456,17 @@ module _ (b : Book) (words : List ℕ) (sized : length words ≡ n_words) {m : �
   body_room : (r : Rule) → r is_in rules_of b → (B : ℕ) → positive B is_in r.body → B < capacity
   body_room = rules_small b.heads b.starts b.entries (clamp max_rules b.rules)
 
-  pub facts_fit : (2 * m ≤ capacity) × (4 * (0 + size_below (2 * m) (set_of words)) ≤ 4 * max_sheet)
+  pub facts_fit : (2 * m ≤ capacity) × (size_below (2 * m) (set_of words) ≤ max_sheet)
   facts_fit = let few = few_names in (omega arith, omega (arith, length_most (set_of words) 0 (2 * m)))
 
-  pub round_start : {unknown T F : Set} → unknown ≡ from_on (2 * m) → T ≡ set_of words ∖ unknown → F ≡ ∅ → (before after : List ℕ) (n : ℕ)
+  pub round_start : {unknown T F : Set} → unknown ≡ from_on (2 * m) → T ≡ set_of words ∖ unknown → F ≡ ∅ → (before after : List SheetEntry) (n : ℕ)
       → entries_in after n ≡ entries_in before 0 ++ map (member_entry 1 0) (members (2 * m) (set_of words)) → Making (rules_of b) (set_of words) (2 * m) (entries_in after n) T F
   round_start u t f before after n es =
       start_there (rules_of b) (set_of words) (2 * m) m refl few_names (member_room words sized) body_room before after n (t ∙ ap (λ (X : Set). set_of words ∖ X) u) f es
 
-  pub a_round : {fields : List ℕ} {n : ℕ} {T F : Set} → Making (rules_of b) (set_of words) (2 * m) (entries_in fields n) T F
+  pub a_round : {table : List SheetEntry} {n : ℕ} {T F : Set} → Making (rules_of b) (set_of words) (2 * m) (entries_in table n) T F
       → {all unknown both D X G : Set} → all ≡ from_on 0 → unknown ≡ from_on (2 * m) → both ≡ set_of words ∪ unknown → D ≡ Γs (program_of b both) T → X ≡ all ∖ D → G ≡ X ∖ F
-      → Round b (set_of words) m fields n T F G
+      → Round b (set_of words) m table n T F G
   a_round {T = T} {F} s {D = D} a u v d x g =
       record {
         few = few_names;
@@ -477,30 +477,30 @@ module _ (b : Book) (words : List ℕ) (sized : length words ≡ n_words) {m : �
         group_are = g ∙ ap (λ (Y : Set). Y ∖ F) (x ∙ ap (λ (Y : Set). Y ∖ D) a);
       }
 
-module _ {b : Book} {facts : Set} {m : ℕ} {fields : List ℕ} {n : ℕ} {T F G : Set} (r : Round b facts m fields n T F G) where
+module _ {b : Book} {facts : Set} {m : ℕ} {table : List SheetEntry} {n : ℕ} {T F G : Set} (r : Round b facts m table n T F G) where
   small_bodies : (q : Rule) → q is_in rules_of b → (B : ℕ) → positive B is_in q.body → B < capacity
   small_bodies = rules_small b.heads b.starts b.entries (clamp max_rules b.rules)
 
   pub round_few : n ≤ 4 * m
-  round_few = omega (arith, few_there (rules_of b) facts (2 * m) m refl r.few r.facts_room small_bodies fields n r.making)
+  round_few = omega (arith, few_there (rules_of b) facts (2 * m) m refl r.few r.facts_room small_bodies table n r.making)
 
-  pub round_room : length fields ≡ 4 * max_sheet → (2 * m ≤ capacity) × (4 * (n + size_below (2 * m) G) ≤ length fields)
+  pub round_room : length table ≡ max_sheet → (2 * m ≤ capacity) × (n + size_below (2 * m) G ≤ length table)
   round_room l =
       let few = r.few in
-      (omega arith, room_there (rules_of b) facts (2 * m) m refl r.few r.facts_room small_bodies fields n r.making r.derived_are refl r.group_are refl l)
+      (omega arith, room_there (rules_of b) facts (2 * m) m refl r.few r.facts_room small_bodies table n r.making r.derived_are refl r.group_are refl l)
 
   -- k entries with the group, E the literals of all groups
-  module _ {E : Set} (together : E ≡ F ∪ G) (after : List ℕ) (k : ℕ) (put : entries_in after k ≡ entries_in fields n ++ map (member_entry 0 n) (members (2 * m) G)) where
+  module _ {E : Set} (together : E ≡ F ∪ G) (after : List SheetEntry) (k : ℕ) (put : entries_in after k ≡ entries_in table n ++ map (member_entry 0 n) (members (2 * m) G)) where
     grouped : Making (rules_of b) facts (2 * m) (entries_in after k) T E
-    grouped = group_there (rules_of b) facts (2 * m) m refl r.few r.facts_room small_bodies fields n r.making r.derived_are refl r.group_are together after k put
+    grouped = group_there (rules_of b) facts (2 * m) m refl r.few r.facts_room small_bodies table n r.making r.derived_are refl r.group_are together after k put
 
-    pub round_bound : length after ≡ 4 * max_sheet → (2 * m ≤ 2 * max_names) × (length after ≡ 4 * max_sheet) × (k ≤ size_below (2 * m) T + size_below (2 * m) E)
+    pub round_bound : length after ≡ max_sheet → (2 * m ≤ 2 * max_names) × (length after ≡ max_sheet) × (k ≤ size_below (2 * m) T + size_below (2 * m) E)
     round_bound l =
         let few = r.few in
         (omega arith, l, bound_there (rules_of b) facts (2 * m) m refl r.few r.facts_room small_bodies after k grouped)
 
     -- j entries with the heads that are shown, U their literals
-    module _ (last : List ℕ) (j : ℕ) {U : Set} (shown : Passes (rules_of b) (2 * m) E (entries_in after k) T (entries_in last j) U) where
+    module _ (last : List SheetEntry) (j : ℕ) {U : Set} (shown : Passes (rules_of b) (2 * m) E (entries_in after k) T (entries_in last j) U) where
       pub round_next : Making (rules_of b) facts (2 * m) (entries_in last j) U E
       round_next = with_passes (rules_of b) facts (2 * m) m refl r.few r.facts_room small_bodies grouped shown
 
@@ -512,7 +512,7 @@ module _ {b : Book} {facts : Set} {m : ℕ} {fields : List ℕ} {n : ℕ} {T F G
       round_fewer h ne = omega (arith, longer, few_there (rules_of b) facts (2 * m) m refl r.few r.facts_room small_bodies last j round_next)
 
       module _ (counted : m ≡ clamp max_names b.names) (truth : Bool) (A : ℕ) where
-        pub round_found : cond truth (U A) (E A) ≡ true → MadeFor (rules_of b) facts (2 * length (names_of b)) truth A (Some (record { count = j; sheet = record { fields = last } }))
+        pub round_found : cond truth (U A) (E A) ≡ true → MadeFor (rules_of b) facts (2 * length (names_of b)) truth A (Some (record { count = j; sheet = record { entries = last } }))
         round_found c = made_found (rules_of b) facts (2 * m) m refl r.few r.facts_room small_bodies last j round_next refl (known_names b counted) truth A c
 
         -- where no head was written, all that is so is there

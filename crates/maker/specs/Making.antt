@@ -34,7 +34,7 @@ with_literals [] T = T
 with_literals (e ∷ es) T = with_literals es (add e.literal T)
 
 -- what one pass over all rules leaves: n entries stand in the table before it
-pub record PassOf (rules : List Rule) (known : ℕ) (F T : Set) (before : List ℕ) (n : ℕ) (after : List ℕ) (r : Grown) : Type 0 where
+pub record PassOf (rules : List Rule) (known : ℕ) (F T : Set) (before : List SheetEntry) (n : ℕ) (after : List SheetEntry) (r : Grown) : Type 0 where
   pub count : r.count ≡ n + length (passed known F 0 rules T)
   pub entries : entries_in after r.count ≡ entries_in before n ++ passed known F 0 rules T
   pub truths : set_of r.truths.words ≡ with_literals (passed known F 0 rules T) T

@@ -17,5 +17,5 @@ pub record Within (n : ℕ) (P : Program) : Type 0 where
 -- for every claim that is so, where all literals of the program are known.
 pub record MadeFor (rules : List Rule) (facts : Set) (known : ℕ) (truth : Bool) (A : ℕ) (made : Option Made) : Type 0 where
   pub few : IfSome made (λ m. m.count ≤ 2 * known)
-  pub passes : IfSome made (λ m. judgement rules facts known truth A (entries_in m.sheet.fields m.count) ≡ accepted)
+  pub passes : IfSome made (λ m. judgement rules facts known truth A (entries_in m.sheet.entries m.count) ≡ accepted)
   pub complete : Within known (program rules facts) → A < known → IsSo (program rules facts) truth A → IsSome made

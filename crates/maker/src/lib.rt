@@ -48,23 +48,23 @@ fn member_entry(kind: u16, group: u16, literal: usize) -> SheetEntry
 
 // Entries for the members of a set below `known`, from place n on; where they end.
 fn put_members(
-    fields: &mut [u16],
+    table: &mut [SheetEntry],
     n: usize,
     s: LitSet,
     known: usize,
     kind: u16,
     group: u16,
 ) -> usize
-    requires { (known ≤ capacity) × (4 * (n + length (members known (set_of s.words))) ≤ length fields.old) }
+    requires { (known ≤ capacity) × (n + length (members known (set_of s.words)) ≤ length table.old) }
     ensures { (result ≡ n + length (members known (set_of s.words)))
-        × (entries_in fields.new result ≡ entries_in fields.old n ++ map (member_entry kind group) (members known (set_of s.words))) }
+        × (entries_in table.new result ≡ entries_in table.old n ++ map (member_entry kind group) (members known (set_of s.words))) }
 {
     let mut m = n;
     for l in 0..known {
         if !litset::contains(s, l) {
             continue;
         }
-        sheet::put_entry(fields, m, member_entry(kind, group, l));
+        sheet::put_entry(table, m, member_entry(kind, group, l));
         m += 1;
     }
     m
@@ -95,9 +95,16 @@ struct Grown {
 }
 
 // One pass over the rules: entries from place n on for those that add their heads.
-fn put_shown(book: &Book, fields: &mut [u16], n: usize, known: usize, t: LitSet, f: LitSet) -> Grown
-    requires { 4 * (n + length (passed known (set_of f.words) 0 (rules_of book.now) (set_of t.words))) ≤ length fields.old }
-    ensures { PassOf (rules_of book.now) known (set_of f.words) (set_of t.words) fields.old n fields.new result }
+fn put_shown(
+    book: &Book,
+    table: &mut [SheetEntry],
+    n: usize,
+    known: usize,
+    t: LitSet,
+    f: LitSet,
+) -> Grown
+    requires { n + length (passed known (set_of f.words) 0 (rules_of book.now) (set_of t.words)) ≤ length table.old }
+    ensures { PassOf (rules_of book.now) known (set_of f.words) (set_of t.words) table.old n table.new result }
 {
     let mut m = n;
     let mut truths = t;
@@ -107,7 +114,7 @@ fn put_shown(book: &Book, fields: &mut [u16], n: usize, known: usize, t: LitSet,
         }
         let head = book::head_at(&book.heads, r);
         sheet::put_entry(
-            fields,
+            table,
             m,
             SheetEntry {
                 kind: 1,
@@ -125,22 +132,22 @@ fn put_shown(book: &Book, fields: &mut [u16], n: usize, known: usize, t: LitSet,
 // Passes over the rules until one adds nothing.
 fn put_truths(
     book: &Book,
-    fields: &mut [u16],
+    table: &mut [SheetEntry],
     n: usize,
     known: usize,
     t: LitSet,
     f: LitSet,
 ) -> Grown
-    requires { (known ≤ 2 * max_names) × (length fields.old ≡ 4 * max_sheet)
+    requires { (known ≤ 2 * max_names) × (length table.old ≡ max_sheet)
         × (n ≤ length (members known (set_of t.words)) + length (members known (set_of f.words))) }
     ensures { Passes (rules_of book.now) known (set_of f.words)
-        (entries_in fields.old n) (set_of t.words) (entries_in fields.new result.count) (set_of result.truths.words)
+        (entries_in table.old n) (set_of t.words) (entries_in table.new result.count) (set_of result.truths.words)
         × (passed known (set_of f.words) 0 (rules_of book.now) (set_of result.truths.words) ≡ []) }
 {
     let mut m = n;
     let mut truths = t;
     loop {
-        let s = put_shown(book, fields, m, known, truths, f);
+        let s = put_shown(book, table, m, known, truths, f);
         if s.count == m {
             return s;
         }
@@ -166,23 +173,20 @@ pub fn make(book: &Book, facts: LitSet, literal: usize, truth: bool) -> Option<M
     let known = 2 * book::name_count(*book);
     let all = litset::from(0);
     let unknown = litset::from(known);
-    let mut fields = [0u16; sheet::MAX_FIELDS];
+    let mut sheet = sheet::blank();
     let mut t = litset::difference(facts, unknown);
     let mut f = litset::empty();
-    let mut n = put_members(&mut fields, 0, facts, known, 1, 0);
+    let mut n = put_members(&mut sheet.entries, 0, facts, known, 1, 0);
     loop {
         let derived = fixpoint::gamma_s(*book, litset::union(facts, unknown), t);
         let group = litset::difference(litset::difference(all, derived), f);
-        let m = put_members(&mut fields, n, group, known, 0, n as u16);
+        let m = put_members(&mut sheet.entries, n, group, known, 0, n as u16);
         f = litset::union(f, group);
-        let s = put_truths(book, &mut fields, m, known, t, f);
+        let s = put_truths(book, &mut sheet.entries, m, known, t, f);
         n = s.count;
         t = s.truths;
         if is_claimed(t, f, literal, truth) {
-            return Some(Made {
-                count: n,
-                sheet: Sheet { fields },
-            });
+            return Some(Made { count: n, sheet });
         }
         let done = n == m;
         if done {

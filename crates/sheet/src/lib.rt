@@ -1,13 +1,13 @@
-// Proof sheets (document 02, A.3): the reasons for a mark as a run of entries, and the check of such a run. A sheet is read from a flat table.
+// Proof sheets (document 02, A.3): the reasons for a mark as a run of entries, and the check of such a run.
 #![tactic(auto)]
 
-ghost use Rattle.std.specs.Prelude.{◌≡◌, ◌&&◌, ◌*◌, ◌≤◌, ◌<◌, eqb, length, get_or};
+ghost use Rattle.std.specs.Prelude.{◌≡◌, ◌&&◌, ◌*◌, ◌≤◌, ◌<◌, eqb, length, set};
 ghost use Rattle.std.specs.Bool.{beq};
 ghost use Rattle.wfsx.specs.Model.{every};
 ghost use Rattle.litset.specs.Words.{capacity, set_of};
 ghost use Rattle.book.specs.Book.{rows, body_of, entry_is, program, names_of, rules_of};
 ghost use Rattle.sheet.specs.Sheet.{shown, rule_numbered, true_follows, kind_of, among, judgement};
-ghost use Rattle.sheet.specs.Flat.{entry_in, entries_in, with_entry, blank};
+ghost use Rattle.sheet.specs.Flat.{entry_in, entries_in, blank};
 ghost use Rattle.sheet.specs.Turns.{shows_for, open_in, numbered, passes, FirstFailing, GroupOf, left_at, TurnOf, FaultAt};
 ghost use Rattle.sheet.specs.Answers.{judgement_of, number_of};
 
@@ -16,9 +16,6 @@ use litset::LitSet;
 
 // The most entries of a sheet: two for each literal of a full book.
 pub const MAX_SHEET: usize = 4 * book::MAX_NAMES;
-
-// The numbers of a sheet's table: four for each entry.
-pub const MAX_FIELDS: usize = 4 * MAX_SHEET;
 
 // An entry of a proof sheet. The kind is 1 for true and 0 for false. The rule number is read where the kind is 1, the group number where it is 0.
 #[repr(C)]
@@ -30,10 +27,18 @@ pub struct SheetEntry {
     pub group: u16,
 }
 
-// A sheet in a flat table: entry i has its kind, literal, rule number and group number from place 4 i on. How many entries it has stands beside it.
+// An entry whose numbers are 0.
+const NO_ENTRY: SheetEntry = SheetEntry {
+    kind: 0,
+    literal: 0,
+    rule: 0,
+    group: 0,
+};
+
+// A table of entries. How many of them are the sheet's stands beside it.
 #[derive(Clone, Copy)]
 pub struct Sheet {
-    pub fields: [u16; MAX_FIELDS],
+    pub entries: [SheetEntry; MAX_SHEET],
 }
 
 // ---- the table
@@ -43,52 +48,24 @@ pub fn blank() -> Sheet
     ensures { result ≡ blank }
 {
     Sheet {
-        fields: [0u16; MAX_FIELDS],
+        entries: [NO_ENTRY; MAX_SHEET],
     }
-}
-
-// The number at a place of a table; past its end 0.
-fn field_at(fields: &[u16], p: usize) -> u16
-    ensures { result ≡ get_or fields.now p 0 }
-{
-    fields.get(p).copied().unwrap_or(0)
 }
 
 // Entry i of a table; past its end the numbers are 0.
-#[tactic(auto, using(crate::proofs::Stored::read_past, crate::proofs::Stored::read_at))]
-pub fn entry_at(fields: &[u16], i: usize) -> SheetEntry
-    ensures { result ≡ entry_in fields.now i }
+pub fn entry_at(table: &[SheetEntry], i: usize) -> SheetEntry
+    ensures { result ≡ entry_in table.now i }
 {
-    if fields.len() / 4 < i {
-        return SheetEntry {
-            kind: 0,
-            literal: 0,
-            rule: 0,
-            group: 0,
-        };
-    }
-    let p = 4 * i;
-    SheetEntry {
-        kind: field_at(fields, p),
-        literal: field_at(fields, p + 1),
-        rule: field_at(fields, p + 2),
-        group: field_at(fields, p + 3),
-    }
+    table.get(i).copied().unwrap_or(NO_ENTRY)
 }
 
 // An entry becomes entry i of a table; what lies past its end is left out.
-#[tactic(auto, using(crate::proofs::Stored::stored_past, crate::proofs::Stored::stored_at))]
-pub fn put_entry(fields: &mut [u16], i: usize, e: SheetEntry)
-    ensures { fields.new ≡ with_entry fields.old i e }
+pub fn put_entry(table: &mut [SheetEntry], i: usize, e: SheetEntry)
+    ensures { table.new ≡ set table.old i e }
 {
-    if fields.len() / 4 < i {
-        return;
+    if i < table.len() {
+        table[i] = e;
     }
-    let p = 4 * i;
-    store::put16(fields, p, e.kind);
-    store::put16(fields, p + 1, e.literal);
-    store::put16(fields, p + 2, e.rule);
-    store::put16(fields, p + 3, e.group);
 }
 
 // ---- the check
@@ -216,11 +193,11 @@ fn is_false_of(e: SheetEntry, g: u16) -> bool
 
 // Whether a "false" entry before place i has the number.
 #[tactic(auto, using(crate::proofs::Entries::numbered_none, crate::proofs::Entries::numbered_found, crate::proofs::Entries::numbered_other))]
-fn is_ended(fields: &[u16], i: usize, g: u16) -> bool
-    ensures { result ≡ numbered (entry_in fields.now) i g }
+fn is_ended(table: &[SheetEntry], i: usize, g: u16) -> bool
+    ensures { result ≡ numbered (entry_in table.now) i g }
 {
     for j in 0..i {
-        if is_false_of(entry_at(fields, j), g) {
+        if is_false_of(entry_at(table, j), g) {
             return true;
         }
     }
@@ -236,15 +213,15 @@ struct Group {
 }
 
 // The group that begins at place i of the first n entries.
-fn group_of(fields: &[u16], i: usize, n: usize) -> Group
+fn group_of(table: &[SheetEntry], i: usize, n: usize) -> Group
     requires { i < n }
-    ensures { GroupOf (entry_in fields.now) i n result }
+    ensures { GroupOf (entry_in table.now) i n result }
 {
-    let first = entry_at(fields, i);
+    let first = entry_at(table, i);
     let number = first.group;
     let mut members = litset::insert(litset::empty(), usize::from(first.literal));
     for j in i + 1..n {
-        let e = entry_at(fields, j);
+        let e = entry_at(table, j);
         if !is_false_of(e, number) {
             return Group {
                 number,
@@ -269,12 +246,18 @@ fn passes(known: usize, opened: LitSet, literal: usize) -> bool
 }
 
 // Whether the literals of the entries from place i to place j pass; the place of the first that doesn't.
-fn all_pass(fields: &[u16], known: usize, opened: LitSet, i: usize, j: usize) -> Result<(), usize>
+fn all_pass(
+    table: &[SheetEntry],
+    known: usize,
+    opened: LitSet,
+    i: usize,
+    j: usize,
+) -> Result<(), usize>
     requires { i ≤ j }
-    ensures { FirstFailing (passes known (set_of opened.words)) (entry_in fields.now) i j result }
+    ensures { FirstFailing (passes known (set_of opened.words)) (entry_in table.now) i j result }
 {
     for k in i..j {
-        let e = entry_at(fields, k);
+        let e = entry_at(table, k);
         if !passes(known, opened, usize::from(e.literal)) {
             return Err(k);
         }
@@ -287,20 +270,20 @@ fn group_turn(
     book: &Book,
     facts: LitSet,
     known: usize,
-    fields: &[u16],
+    table: &[SheetEntry],
     n: usize,
     p: Progress,
 ) -> Result<Progress, usize>
-    requires { (p.next < n) × (known ≤ capacity) × ((entry_in fields.now p.next).kind ≡ 0) }
-    ensures { TurnOf (left_at (rules_of book.now) (set_of facts.words) known (entry_in fields.now) n) n p result }
+    requires { (p.next < n) × (known ≤ capacity) × ((entry_in table.now p.next).kind ≡ 0) }
+    ensures { TurnOf (left_at (rules_of book.now) (set_of facts.words) known (entry_in table.now) n) n p result }
 {
-    let group = group_of(fields, p.next, n);
-    if is_ended(fields, p.next, group.number) {
+    let group = group_of(table, p.next, n);
+    if is_ended(table, p.next, group.number) {
         return Err(p.next);
     }
     let falses = litset::union(p.falses, group.members);
     let opened = left_open(book, facts, p.truths, falses);
-    all_pass(fields, known, opened, p.next, group.end)?;
+    all_pass(table, known, opened, p.next, group.end)?;
     Ok(Progress {
         next: group.end,
         falses,
@@ -313,16 +296,16 @@ fn turn(
     book: &Book,
     facts: LitSet,
     known: usize,
-    fields: &[u16],
+    table: &[SheetEntry],
     n: usize,
     p: Progress,
 ) -> Result<Progress, usize>
     requires { (p.next < n) × (known ≤ capacity) }
-    ensures { TurnOf (left_at (rules_of book.now) (set_of facts.words) known (entry_in fields.now) n) n p result }
+    ensures { TurnOf (left_at (rules_of book.now) (set_of facts.words) known (entry_in table.now) n) n p result }
 {
-    let e = entry_at(fields, p.next);
+    let e = entry_at(table, p.next);
     if e.kind == 0 {
-        return group_turn(book, facts, known, fields, n, p);
+        return group_turn(book, facts, known, table, n, p);
     }
     if !true_follows(book, facts, known, p, e) {
         return Err(p.next);
@@ -341,11 +324,11 @@ fn all_follow(
     book: &Book,
     facts: LitSet,
     known: usize,
-    fields: &[u16],
+    table: &[SheetEntry],
     n: usize,
 ) -> Result<(), usize>
     requires { known ≤ capacity }
-    ensures { FaultAt (rules_of book.now) (set_of facts.words) known (entry_in fields.now) n result }
+    ensures { FaultAt (rules_of book.now) (set_of facts.words) known (entry_in table.now) n result }
 {
     let mut p = Progress {
         next: 0,
@@ -353,7 +336,7 @@ fn all_follow(
         falses: litset::empty(),
     };
     while p.next < n {
-        p = turn(book, facts, known, fields, n, p)?;
+        p = turn(book, facts, known, table, n, p)?;
     }
     Ok(())
 }
@@ -367,11 +350,11 @@ fn is_claim(e: SheetEntry, kind: u16, literal: usize) -> bool
 
 // Whether an entry of the kind for the literal is among the first n.
 #[tactic(auto, using(crate::proofs::Entries::unseen_all, crate::proofs::Entries::unseen_found, crate::proofs::Entries::unseen_more))]
-fn is_among(fields: &[u16], n: usize, kind: u16, literal: usize) -> bool
-    ensures { result ≡ among kind literal (rows (entry_in fields.now) 0 n) }
+fn is_among(table: &[SheetEntry], n: usize, kind: u16, literal: usize) -> bool
+    ensures { result ≡ among kind literal (rows (entry_in table.now) 0 n) }
 {
     for j in 0..n {
-        if is_claim(entry_at(fields, j), kind, literal) {
+        if is_claim(entry_at(table, j), kind, literal) {
             return true;
         }
     }
@@ -390,7 +373,7 @@ pub fn judge(
 ) -> Result<(), Rejection>
     ensures { judgement_of result
         ≡ judgement (rules_of book.now) (set_of facts.words) (2 * length (names_of book.now)) truth literal
-        (entries_in sheet.now.fields n) }
+        (entries_in sheet.now.entries n) }
 {
     if n == 0 {
         return Err(Rejection::WrongCount);
@@ -399,10 +382,10 @@ pub fn judge(
         return Err(Rejection::WrongCount);
     }
     let known = 2 * book::name_count(*book);
-    if let Err(place) = all_follow(book, facts, known, &sheet.fields, n) {
+    if let Err(place) = all_follow(book, facts, known, &sheet.entries, n) {
         return Err(Rejection::NotFollowing(place));
     }
-    if !is_among(&sheet.fields, n, u16::from(truth), literal) {
+    if !is_among(&sheet.entries, n, u16::from(truth), literal) {
         return Err(Rejection::ClaimMissing);
     }
     Ok(())

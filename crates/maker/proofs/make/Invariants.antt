@@ -9,7 +9,7 @@ use Rattle.maker.proofs.make.Given as goal
 
 abbrev pub invariant-loop-facts : goal.invariant-loop-facts
 invariant-loop-facts l =
-    (length l.fields ≡ 4 * max_sheet) × Making (rules_of l.book) (set_of l.facts.words) l.known (entries_in l.fields l.n) (set_of l.t.words) (set_of l.f.words)
+    (length l.sheet.entries ≡ max_sheet) × Making (rules_of l.book) (set_of l.facts.words) l.known (entries_in l.sheet.entries l.n) (set_of l.t.words) (set_of l.f.words)
 
 abbrev pub decreases-loop-facts : goal.decreases-loop-facts
 decreases-loop-facts l = 2 * l.known - l.n

@@ -4,4 +4,4 @@ use Rattle.maker.proofs.Loops.{Putting}
 use Rattle.maker.proofs.put_members.Given as goal
 
 abbrev pub invariant-loop-l : goal.invariant-loop-l
-invariant-loop-l l = Putting l.kind l.group (set_of l.s.words) l.known l.n l.initial.fields l.fields l.m l.l
+invariant-loop-l l = Putting l.kind l.group (set_of l.s.words) l.known l.n l.initial.table l.table l.m l.l

@@ -11,14 +11,14 @@ put_shown-s-requires c = grew_room c.requires.0 c.loop-m.invariant
 pub returns-then-s-m : goal.returns-then-s-m
 returns-then-s-m c =
     let s = c.put_shown-s in
-    grew_last c.requires.0 c.loop-m.invariant _ s.ensures.count s.ensures.entries s.ensures.truths s.auto.fields c.if-s-m.true
+    grew_last c.requires.0 c.loop-m.invariant _ s.ensures.count s.ensures.entries s.ensures.truths s.auto.table c.if-s-m.true
 
 pub loop-m-smaller : goal.loop-m-smaller
 loop-m-smaller c =
     let s = c.put_shown-s in
-    grew_fewer c.requires.0 c.loop-m.invariant _ s.ensures.count s.ensures.entries s.ensures.truths s.auto.fields c.if-s-m.false
+    grew_fewer c.requires.0 c.loop-m.invariant _ s.ensures.count s.ensures.entries s.ensures.truths s.auto.table c.if-s-m.false
 
 pub loop-m-preserved : goal.loop-m-preserved
 loop-m-preserved c =
     let s = c.put_shown-s in
-    grew_more c.requires.0 c.loop-m.invariant _ s.ensures.count s.ensures.entries s.ensures.truths s.auto.fields
+    grew_more c.requires.0 c.loop-m.invariant _ s.ensures.count s.ensures.entries s.ensures.truths s.auto.table

@@ -6,4 +6,4 @@ use Rattle.sheet.proofs.Entries.{Passing}
 use Rattle.sheet.proofs.all_pass.Given as goal
 
 abbrev pub invariant-loop-k : goal.invariant-loop-k
-invariant-loop-k l = Passing (passes l.known (set_of l.opened.words)) (entry_in l.fields) l.i l.j l.k
+invariant-loop-k l = Passing (passes l.known (set_of l.opened.words)) (entry_in l.table) l.i l.j l.k

@@ -5,4 +5,4 @@ use Rattle.sheet.specs.Turns.{RunTo}
 use Rattle.sheet.proofs.group_of.Given as goal
 
 abbrev pub invariant-loop-j : goal.invariant-loop-j
-invariant-loop-j l = RunTo (entry_in l.fields) l.i l.n l.j (set_of l.members.words)
+invariant-loop-j l = RunTo (entry_in l.table) l.i l.n l.j (set_of l.members.words)

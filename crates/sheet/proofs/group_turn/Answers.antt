@@ -10,7 +10,7 @@ returns-then-is_ended c =
     let A = c.args in
     let room : length A.facts.words ≡ n_words = search rules in
     let g = c.group_of-group.ensures in
-    (c.requires.0, group_ends A.book.now _ (member_room A.facts.words room) _ c.requires.1 (entry_in A.fields.now) A.n _ _ A.p.next c.requires.0 c.requires.2 g.run g.stops (rw (← g.number) (sym c.is_ended.ensures ∙ c.if-is_ended.true)))
+    (c.requires.0, group_ends A.book.now _ (member_room A.facts.words room) _ c.requires.1 (entry_in A.table.now) A.n _ _ A.p.next c.requires.0 c.requires.2 g.run g.stops (rw (← g.number) (sym c.is_ended.ensures ∙ c.if-is_ended.true)))
 
 pub returns-in_err-all_pass : goal.returns-in_err-all_pass
 returns-in_err-all_pass c =
@@ -18,11 +18,11 @@ returns-in_err-all_pass c =
     let room : length A.facts.words ≡ n_words = search rules in
     let g = c.group_of-group.ensures in
     let e : c.from_residual.result ≡ Err c.in_err-all_pass.field-0.0 = search rules in
-    rw e (omega (arith, c.in_err-all_pass.ensures.within, g.run.within), group_fails A.book.now _ (member_room A.facts.words room) _ c.requires.1 (entry_in A.fields.now) A.n _ _ A.p.next c.requires.0 c.requires.2 g.run g.stops (rw (← g.number) (sym c.is_ended.ensures ∙ c.if-is_ended.false)) c.union-falses.ensures c.left_open-opened.ensures c.in_err-all_pass.ensures)
+    rw e (omega (arith, c.in_err-all_pass.ensures.within, g.run.within), group_fails A.book.now _ (member_room A.facts.words room) _ c.requires.1 (entry_in A.table.now) A.n _ _ A.p.next c.requires.0 c.requires.2 g.run g.stops (rw (← g.number) (sym c.is_ended.ensures ∙ c.if-is_ended.false)) c.union-falses.ensures c.left_open-opened.ensures c.in_err-all_pass.ensures)
 
 pub returns : goal.returns
 returns c =
     let A = c.args in
     let room : length A.facts.words ≡ n_words = search rules in
     let g = c.group_of-group.ensures in
-    (g.run.above, g.run.within, group_goes A.book.now _ (member_room A.facts.words room) _ c.requires.1 (entry_in A.fields.now) A.n _ _ A.p.next c.requires.0 c.requires.2 g.run g.stops (rw (← g.number) (sym c.is_ended.ensures ∙ c.if-is_ended.false)) c.union-falses.ensures c.left_open-opened.ensures c.in_ok-all_pass.ensures)
+    (g.run.above, g.run.within, group_goes A.book.now _ (member_room A.facts.words room) _ c.requires.1 (entry_in A.table.now) A.n _ _ A.p.next c.requires.0 c.requires.2 g.run g.stops (rw (← g.number) (sym c.is_ended.ensures ∙ c.if-is_ended.false)) c.union-falses.ensures c.left_open-opened.ensures c.in_ok-all_pass.ensures)

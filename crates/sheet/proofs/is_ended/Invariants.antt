@@ -5,4 +5,4 @@ use Rattle.sheet.specs.Turns.{numbered}
 use Rattle.sheet.proofs.is_ended.Given as goal
 
 abbrev pub invariant-loop-j : goal.invariant-loop-j
-invariant-loop-j l = numbered (entry_in l.fields) l.j l.g ≡ false
+invariant-loop-j l = numbered (entry_in l.table) l.j l.g ≡ false
