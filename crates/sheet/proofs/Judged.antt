@@ -13,7 +13,10 @@ use Rattle.wfsx.specs.Program.{Rule}
 use Rattle.book.specs.Limits.{max_names}
 use Rattle.book.specs.Book.{rows, clamp, name_at, names_of}
 use Rattle.book.specs.declared.Book.{Book}
-use Rattle.book.proofs.Rows.{rows_length}
+use lib.ListN.{take, length-take}
+use Rattle.std.proofs.lemmas.List.{get_or-take}
+use Rattle.book.proofs.Rows.{rows_length, rows_same}
+use Rattle.sheet.specs.Flat.{zeros, entry_in}
 use Rattle.sheet.specs.declared.SheetEntry.{SheetEntry}
 use Rattle.sheet.specs.Sheet.{max_sheet, fault, kind_of, among, Judgement, accepted, refused, judged_by, none, judgement}
 use Rattle.sheet.specs.Turns.{fault_or, FaultAt}
@@ -27,6 +30,22 @@ known_names b e = e ∙ sym (rows_length (name_at b.text b.lengths) 0 (clamp max
 pub kind_byte : (truth : Bool) → bool_byte truth ≡ kind_of truth
 kind_byte true = refl
 kind_byte false = refl
+
+-- ---- the first entries of a table, by themselves
+
+module _ (table : List SheetEntry) (n : ℕ) (room : n ≤ length table) where
+  cut_length : length (take n table) ≡ n
+  cut_length = simp length-take (omega arith)
+
+  cut_rows : rows (entry_in (take n table)) 0 (length (take n table)) ≡ rows (entry_in table) 0 n
+  cut_rows = rw cut_length (rows_same (entry_in (take n table)) (entry_in table) 0 n (λ j l. get_or-take n table j zeros (omega arith)))
+
+  pub cut_fault : {rules : List Rule} {facts : Set} {known : ℕ} {r : Result Unit ℕ} → FaultAt rules facts known (entry_in (take n table)) (length (take n table)) r
+      → FaultAt rules facts known (entry_in table) n r
+  cut_fault f = record { within = rw cut_length at f.within; found = rw cut_rows at f.found }
+
+  pub cut_among : (kind A : ℕ) {b : Bool} → b ≡ among kind A (rows (entry_in (take n table)) 0 (length (take n table))) → b ≡ among kind A (rows (entry_in table) 0 n)
+  cut_among kind A e = rw cut_rows at e
 
 -- ---- the answer
 

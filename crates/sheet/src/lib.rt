@@ -4,7 +4,7 @@
 ghost use Rattle.std.specs.Prelude.{◌≡◌, ◌&&◌, ◌*◌, ◌≤◌, ◌<◌, eqb, length, set};
 ghost use Rattle.std.specs.Bool.{beq};
 ghost use Rattle.wfsx.specs.Model.{every};
-ghost use Rattle.litset.specs.Words.{capacity, set_of};
+ghost use Rattle.litset.specs.Words.{n_words, capacity, set_of};
 ghost use Rattle.book.specs.Book.{rows, body_of, entry_is, program, names_of, rules_of};
 ghost use Rattle.sheet.specs.Sheet.{shown, rule_numbered, true_follows, kind_of, among, judgement};
 ghost use Rattle.sheet.specs.Flat.{entry_in, entries_in, blank};
@@ -122,24 +122,6 @@ pub fn body_as(book: &Book, r: usize, d: LitSet, s: LitSet, want: bool) -> bool
     true
 }
 
-// The literals that have a rule left open, facts too: t are the literals already true, d those already false or in the group. A rule is passed over at once
-// where its head's complement is in t, or its head is known to have a rule left open.
-fn left_open(book: &Book, facts: LitSet, t: LitSet, d: LitSet) -> LitSet
-    ensures { set_of result.words
-        ≡ open_in (program (rules_of book.now) (set_of facts.words)) (set_of t.words) (set_of d.words) }
-{
-    let shut = litset::complements(t);
-    let mut done = litset::union(facts, shut);
-    for r in 0..book::rule_count(*book) {
-        let head = book::head_at(&book.heads, r);
-        if litset::contains(done, head) || !body_as(book, r, d, t, false) {
-            continue;
-        }
-        done = litset::insert(done, head);
-    }
-    litset::difference(done, shut)
-}
-
 // Whether the number is that of a rule of the literal whose body is shown.
 #[tactic(auto, using(crate::proofs::Tables::names_past, crate::proofs::Tables::names_other, crate::proofs::Tables::names_body))]
 fn rule_shown(book: &Book, t: LitSet, f: LitSet, literal: usize, number: usize) -> bool
@@ -164,44 +146,11 @@ struct Progress {
     falses: LitSet,
 }
 
-// Whether a "true" entry follows; an entry of another kind does not.
-#[tactic(auto, using(crate::proofs::Tables::other_kind, crate::proofs::Tables::unknown, crate::proofs::Tables::follows_rule, crate::proofs::Tables::names_nothing, crate::proofs::Tables::follows_fact))]
-fn true_follows(book: &Book, facts: LitSet, known: usize, p: Progress, e: SheetEntry) -> bool
-    ensures { result
-        ≡ true_follows (rules_of book.now) (set_of facts.words) known (set_of p.truths.words) (set_of p.falses.words) e }
-{
-    if e.kind != 1 {
-        return false;
-    }
-    let literal = usize::from(e.literal);
-    if known <= literal {
-        return false;
-    }
-    let number = usize::from(e.rule);
-    if rule_shown(book, p.truths, p.falses, literal, number) {
-        return true;
-    }
-    number == FACTS + literal && litset::contains(facts, literal)
-}
-
 // Whether an entry is a "false" entry under the number g.
 fn is_false_of(e: SheetEntry, g: u16) -> bool
     ensures { result ≡ (eqb e.kind 0 && eqb g e.group) }
 {
     e.kind == 0 && g == e.group
-}
-
-// Whether a "false" entry before place i has the number.
-#[tactic(auto, using(crate::proofs::Entries::numbered_none, crate::proofs::Entries::numbered_found, crate::proofs::Entries::numbered_other))]
-fn is_ended(table: &[SheetEntry], i: usize, g: u16) -> bool
-    ensures { result ≡ numbered (entry_in table.now) i g }
-{
-    for j in 0..i {
-        if is_false_of(entry_at(table, j), g) {
-            return true;
-        }
-    }
-    false
 }
 
 // A group of "false" entries: its number, the place behind it, and its literals, as far as a set has room.
@@ -212,135 +161,6 @@ struct Group {
     members: LitSet,
 }
 
-// The group that begins at place i of the first n entries.
-fn group_of(table: &[SheetEntry], i: usize, n: usize) -> Group
-    requires { i < n }
-    ensures { GroupOf (entry_in table.now) i n result }
-{
-    let first = entry_at(table, i);
-    let number = first.group;
-    let mut members = litset::insert(litset::empty(), usize::from(first.literal));
-    for j in i + 1..n {
-        let e = entry_at(table, j);
-        if !is_false_of(e, number) {
-            return Group {
-                number,
-                end: j,
-                members,
-            };
-        }
-        members = litset::insert(members, usize::from(e.literal));
-    }
-    Group {
-        number,
-        end: n,
-        members,
-    }
-}
-
-// Whether a literal is known and has no rule left open.
-fn passes(known: usize, opened: LitSet, literal: usize) -> bool
-    ensures { result ≡ passes known (set_of opened.words) literal }
-{
-    literal < known && !litset::contains(opened, literal)
-}
-
-// Whether the literals of the entries from place i to place j pass; the place of the first that doesn't.
-fn all_pass(
-    table: &[SheetEntry],
-    known: usize,
-    opened: LitSet,
-    i: usize,
-    j: usize,
-) -> Result<(), usize>
-    requires { i ≤ j }
-    ensures { FirstFailing (passes known (set_of opened.words)) (entry_in table.now) i j result }
-{
-    for k in i..j {
-        let e = entry_at(table, k);
-        if !passes(known, opened, usize::from(e.literal)) {
-            return Err(k);
-        }
-    }
-    Ok(())
-}
-
-// The group that comes next is judged, whole; the place of the entry that does not follow.
-fn group_turn(
-    book: &Book,
-    facts: LitSet,
-    known: usize,
-    table: &[SheetEntry],
-    n: usize,
-    p: Progress,
-) -> Result<Progress, usize>
-    requires { (p.next < n) × (known ≤ capacity) × ((entry_in table.now p.next).kind ≡ 0) }
-    ensures { TurnOf (left_at (rules_of book.now) (set_of facts.words) known (entry_in table.now) n) n p result }
-{
-    let group = group_of(table, p.next, n);
-    if is_ended(table, p.next, group.number) {
-        return Err(p.next);
-    }
-    let falses = litset::union(p.falses, group.members);
-    let opened = left_open(book, facts, p.truths, falses);
-    all_pass(table, known, opened, p.next, group.end)?;
-    Ok(Progress {
-        next: group.end,
-        falses,
-        ..p
-    })
-}
-
-// The entry or the group that comes next is judged.
-fn turn(
-    book: &Book,
-    facts: LitSet,
-    known: usize,
-    table: &[SheetEntry],
-    n: usize,
-    p: Progress,
-) -> Result<Progress, usize>
-    requires { (p.next < n) × (known ≤ capacity) }
-    ensures { TurnOf (left_at (rules_of book.now) (set_of facts.words) known (entry_in table.now) n) n p result }
-{
-    let e = entry_at(table, p.next);
-    if e.kind == 0 {
-        return group_turn(book, facts, known, table, n, p);
-    }
-    if !true_follows(book, facts, known, p, e) {
-        return Err(p.next);
-    }
-    let truths = litset::insert(p.truths, usize::from(e.literal));
-    Ok(Progress {
-        next: p.next + 1,
-        truths,
-        ..p
-    })
-}
-
-// Whether the first n entries follow; the place of the first that doesn't.
-#[tactic(auto, using(crate::proofs::Turns::come_end, crate::proofs::Turns::come_on, crate::proofs::Turns::come_halt))]
-fn all_follow(
-    book: &Book,
-    facts: LitSet,
-    known: usize,
-    table: &[SheetEntry],
-    n: usize,
-) -> Result<(), usize>
-    requires { known ≤ capacity }
-    ensures { FaultAt (rules_of book.now) (set_of facts.words) known (entry_in table.now) n result }
-{
-    let mut p = Progress {
-        next: 0,
-        truths: litset::empty(),
-        falses: litset::empty(),
-    };
-    while p.next < n {
-        p = turn(book, facts, known, table, n, p)?;
-    }
-    Ok(())
-}
-
 // Whether an entry is of the kind and for the literal.
 fn is_claim(e: SheetEntry, kind: u16, literal: usize) -> bool
     ensures { result ≡ (eqb e.kind kind && eqb literal e.literal) }
@@ -348,17 +168,186 @@ fn is_claim(e: SheetEntry, kind: u16, literal: usize) -> bool
     e.kind == kind && literal == usize::from(e.literal)
 }
 
-// Whether an entry of the kind for the literal is among the first n.
-#[tactic(auto, using(crate::proofs::Entries::unseen_all, crate::proofs::Entries::unseen_found, crate::proofs::Entries::unseen_more))]
-fn is_among(table: &[SheetEntry], n: usize, kind: u16, literal: usize) -> bool
-    ensures { result ≡ among kind literal (rows (entry_in table.now) 0 n) }
-{
-    for j in 0..n {
-        if is_claim(entry_at(table, j), kind, literal) {
+// What is checked, and over what: the entries of a sheet, the rules of a book and the facts put in; the literals below a number are known.
+#[derive(Clone, Copy)]
+struct Check<'a> {
+    book: &'a Book,
+    facts: LitSet,
+    known: usize,
+    entries: &'a [SheetEntry],
+    // A set of literals has its words, behind a reference too.
+    ghost sized: { length facts.words ≡ n_words },
+    ghost small: { known ≤ capacity },
+}
+
+impl<'a> Check<'a> {
+    // The literals that have a rule left open, facts too: t are the literals already true, d those already false or in the group. A rule is passed over at
+    // once where its head's complement is in t, or its head is known to have a rule left open.
+    fn left_open(&self, t: LitSet, d: LitSet) -> LitSet
+        ensures { set_of result.words
+            ≡ open_in (program (rules_of self.now.book.now) (set_of self.now.facts.words)) (set_of t.words) (set_of d.words) }
+    {
+        let shut = litset::complements(t);
+        let mut done = litset::union(self.facts, shut);
+        for r in 0..book::rule_count(*self.book) {
+            let head = book::head_at(&self.book.heads, r);
+            if litset::contains(done, head) || !body_as(self.book, r, d, t, false) {
+                continue;
+            }
+            done = litset::insert(done, head);
+        }
+        litset::difference(done, shut)
+    }
+
+    // Whether a "true" entry follows; an entry of another kind does not.
+    #[tactic(auto, using(crate::proofs::Tables::other_kind, crate::proofs::Tables::unknown, crate::proofs::Tables::follows_rule, crate::proofs::Tables::names_nothing, crate::proofs::Tables::follows_fact))]
+    fn true_follows(&self, p: Progress, e: SheetEntry) -> bool
+        ensures { result
+            ≡ true_follows (rules_of self.now.book.now) (set_of self.now.facts.words) self.now.known (set_of p.truths.words) (set_of p.falses.words) e }
+    {
+        if e.kind != 1 {
+            return false;
+        }
+        let literal = usize::from(e.literal);
+        if self.known <= literal {
+            return false;
+        }
+        let number = usize::from(e.rule);
+        if rule_shown(self.book, p.truths, p.falses, literal, number) {
             return true;
         }
+        number == FACTS + literal && litset::contains(self.facts, literal)
     }
-    false
+
+    // Whether a "false" entry before place i has the number.
+    #[tactic(auto, using(crate::proofs::Entries::numbered_none, crate::proofs::Entries::numbered_found, crate::proofs::Entries::numbered_other))]
+    fn is_ended(&self, i: usize, g: u16) -> bool
+        ensures { result ≡ numbered (entry_in self.now.entries.now) i g }
+    {
+        for j in 0..i {
+            if is_false_of(entry_at(self.entries, j), g) {
+                return true;
+            }
+        }
+        false
+    }
+
+    // The group that begins at place i.
+    fn group_of(&self, i: usize) -> Group
+        requires { i < length self.now.entries.now }
+        ensures { GroupOf (entry_in self.now.entries.now) i (length self.now.entries.now) result }
+    {
+        let first = entry_at(self.entries, i);
+        let number = first.group;
+        let mut members = litset::insert(litset::empty(), usize::from(first.literal));
+        for j in i + 1..self.entries.len() {
+            let e = entry_at(self.entries, j);
+            if !is_false_of(e, number) {
+                return Group {
+                    number,
+                    end: j,
+                    members,
+                };
+            }
+            members = litset::insert(members, usize::from(e.literal));
+        }
+        Group {
+            number,
+            end: self.entries.len(),
+            members,
+        }
+    }
+
+    // Whether a literal is known and has no rule left open.
+    fn passes(&self, opened: LitSet, literal: usize) -> bool
+        ensures { result ≡ passes self.now.known (set_of opened.words) literal }
+    {
+        literal < self.known && !litset::contains(opened, literal)
+    }
+
+    // Whether the literals of the entries from place i to place j pass; the place of the first that doesn't.
+    fn all_pass(&self, opened: LitSet, i: usize, j: usize) -> Result<(), usize>
+        requires { i ≤ j }
+        ensures { FirstFailing (passes self.now.known (set_of opened.words)) (entry_in self.now.entries.now) i j result }
+    {
+        for k in i..j {
+            let e = entry_at(self.entries, k);
+            if !self.passes(opened, usize::from(e.literal)) {
+                return Err(k);
+            }
+        }
+        Ok(())
+    }
+
+    // The group that comes next is judged, whole; the place of the entry that does not follow.
+    fn group_turn(&self, p: Progress) -> Result<Progress, usize>
+        requires { (p.next < length self.now.entries.now) × ((entry_in self.now.entries.now p.next).kind ≡ 0) }
+        ensures { TurnOf (left_at (rules_of self.now.book.now) (set_of self.now.facts.words) self.now.known (entry_in self.now.entries.now) (length self.now.entries.now))
+            (length self.now.entries.now) p result }
+    {
+        let group = self.group_of(p.next);
+        if self.is_ended(p.next, group.number) {
+            return Err(p.next);
+        }
+        let falses = litset::union(p.falses, group.members);
+        let opened = self.left_open(p.truths, falses);
+        self.all_pass(opened, p.next, group.end)?;
+        Ok(Progress {
+            next: group.end,
+            falses,
+            ..p
+        })
+    }
+
+    // The entry or the group that comes next is judged.
+    fn turn(&self, p: Progress) -> Result<Progress, usize>
+        requires { p.next < length self.now.entries.now }
+        ensures { TurnOf (left_at (rules_of self.now.book.now) (set_of self.now.facts.words) self.now.known (entry_in self.now.entries.now) (length self.now.entries.now))
+            (length self.now.entries.now) p result }
+    {
+        let e = entry_at(self.entries, p.next);
+        if e.kind == 0 {
+            return self.group_turn(p);
+        }
+        if !self.true_follows(p, e) {
+            return Err(p.next);
+        }
+        let truths = litset::insert(p.truths, usize::from(e.literal));
+        Ok(Progress {
+            next: p.next + 1,
+            truths,
+            ..p
+        })
+    }
+
+    // Whether all entries follow; the place of the first that doesn't.
+    #[tactic(auto, using(crate::proofs::Turns::come_end, crate::proofs::Turns::come_on, crate::proofs::Turns::come_halt))]
+    fn all_follow(&self) -> Result<(), usize>
+        ensures { FaultAt (rules_of self.now.book.now) (set_of self.now.facts.words) self.now.known (entry_in self.now.entries.now) (length self.now.entries.now) result }
+    {
+        let mut p = Progress {
+            next: 0,
+            truths: litset::empty(),
+            falses: litset::empty(),
+        };
+        while p.next < self.entries.len() {
+            p = self.turn(p)?;
+        }
+        Ok(())
+    }
+
+    // Whether an entry of the kind for the literal is among them.
+    #[tactic(auto, using(crate::proofs::Entries::unseen_all, crate::proofs::Entries::unseen_found, crate::proofs::Entries::unseen_more))]
+    fn has(&self, kind: u16, literal: usize) -> bool
+        ensures { result ≡ among kind literal (rows (entry_in self.now.entries.now) 0 (length self.now.entries.now)) }
+    {
+        for j in 0..self.entries.len() {
+            if is_claim(entry_at(self.entries, j), kind, literal) {
+                return true;
+            }
+        }
+        false
+    }
 }
 
 // The first n entries of a sheet are judged for the claim that a literal is true, or that it is false.
@@ -381,11 +370,16 @@ pub fn judge(
     if MAX_SHEET < n {
         return Err(Rejection::WrongCount);
     }
-    let known = 2 * book::name_count(*book);
-    if let Err(place) = all_follow(book, facts, known, &sheet.entries, n) {
+    let check = Check {
+        book,
+        facts,
+        known: 2 * book::name_count(*book),
+        entries: &sheet.entries[..n],
+    };
+    if let Err(place) = check.all_follow() {
         return Err(Rejection::NotFollowing(place));
     }
-    if !is_among(&sheet.entries, n, u16::from(truth), literal) {
+    if !check.has(u16::from(truth), literal) {
         return Err(Rejection::ClaimMissing);
     }
     Ok(())

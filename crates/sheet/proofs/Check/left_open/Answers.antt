@@ -1,9 +1,8 @@
-use Rattle.std.proofs.Common.{◌≡◌, ◌∙◌, sym, length, arith, rules}
-use Rattle.litset.specs.Words.{n_words}
+use Rattle.std.proofs.Common.{◌∙◌, sym, arith}
 use Rattle.litset.proofs.Words.{member_room}
 use Rattle.sheet.proofs.Tables.{passed_there, passed_fails, passed_adds, passed_open}
-use Rattle.sheet.proofs.left_open.Goals.{then-contains-via-then-contains, then-contains-via-else-contains+then-not-body_as}
-use Rattle.sheet.proofs.left_open.Goals as goal
+use Rattle.sheet.proofs.Check.left_open.Goals.{then-contains-via-then-contains, then-contains-via-else-contains+then-not-body_as}
+use Rattle.sheet.proofs.Check.left_open.Goals as goal
 
 pub loop-r-preserved-then-contains : goal.loop-r-preserved-then-contains
 loop-r-preserved-then-contains c =
@@ -18,5 +17,4 @@ loop-r-preserved c =
 
 pub returns : goal.returns
 returns c =
-    let room : length c.args.facts.words ≡ n_words = search rules in
-    passed_open _ (member_room c.args.facts.words room) c.complements-shut.ensures c.union-done.ensures c.loop-r.invariant (omega (arith, c.rule_count-r-end.ensures)) c.difference.ensures
+    passed_open _ (member_room c.args.self.now.facts.words c.args.self.now.sized) c.complements-shut.ensures c.union-done.ensures c.loop-r.invariant (omega (arith, c.rule_count-r-end.ensures)) c.difference.ensures

@@ -1,7 +1,7 @@
 use Rattle.std.proofs.Common.{◌∙◌, ap}
 use Rattle.litset.specs.Words.{with}
 use Rattle.sheet.proofs.Entries.{run_first, run_more}
-use Rattle.sheet.proofs.group_of.Goals as goal
+use Rattle.sheet.proofs.Check.group_of.Goals as goal
 
 pub loop-j-init : goal.loop-j-init
 loop-j-init c = run_first c.requires c.entry_at-first.ensures c.from.ensures (c.insert-members.ensures ∙ ap (with c.from.result) c.empty.ensures)
