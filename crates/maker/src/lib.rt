@@ -129,7 +129,7 @@ fn put_shown(
     Grown { count: m, truths }
 }
 
-// Passes over the rules until one adds nothing.
+// Passes over the rules until one adds nothing: how many there are shows only then, so this is no `for`.
 fn put_truths(
     book: &Book,
     table: &mut [SheetEntry],
@@ -177,6 +177,7 @@ pub fn make(book: &Book, facts: LitSet, literal: usize, truth: bool) -> Option<M
     let mut t = litset::difference(facts, unknown);
     let mut f = litset::empty();
     let mut n = put_members(&mut sheet.entries, 0, facts, known, 1, 0);
+    // How many rounds there are shows only at the end, so this is no `for`.
     loop {
         let derived = fixpoint::gamma_s(*book, litset::union(facts, unknown), t);
         let group = litset::difference(litset::difference(all, derived), f);
