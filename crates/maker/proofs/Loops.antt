@@ -72,6 +72,9 @@ module _ {kind group : ℕ} {S : Set} {known n : ℕ} {before : List SheetEntry}
           as_long = ap length stored ∙ length-set table m e ∙ p.as_long;
         }
 
+    pub putting_end : known ≤ l → (m ≡ n + length (members known S)) × (entries_in table m ≡ entries_in before n ++ map (member_entry kind group) (members known S))
+    putting_end h = let z : l ≡ known = omega (arith, p.upto) in rw (← z) (p.place, p.entries)
+
 -- ---- one pass over the rules
 
 with_last : (es : List SheetEntry) (e : SheetEntry) (T : Set) → with_literals (es ++ (e ∷ [])) T ≡ add e.literal (with_literals es T)

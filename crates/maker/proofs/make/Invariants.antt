@@ -9,7 +9,7 @@ use Rattle.maker.proofs.make.Given as goal
 
 abbrev pub invariant-loop-facts : goal.invariant-loop-facts
 invariant-loop-facts l =
-    (length l.sheet.entries ≡ max_sheet) × Making (rules_of l.book) (set_of l.facts.words) l.known (entries_in l.sheet.entries l.n) (set_of l.t.words) (set_of l.f.words)
+    (length l.d.sheet.entries ≡ max_sheet) × Making (rules_of l.book) (set_of l.facts.words) l.known (entries_in l.d.sheet.entries l.d.count) (set_of l.d.truths.words) (set_of l.d.falses.words)
 
 abbrev pub decreases-loop-facts : goal.decreases-loop-facts
-decreases-loop-facts l = 2 * l.known - l.n
+decreases-loop-facts l = 2 * l.known - l.d.count
