@@ -288,7 +288,8 @@ impl<'a> Walk<'a> {
 
     // ---- TU-trees
 
-    // The TU-trees for a literal. A T-tree that one of them waits for is opened from here, and the walk begun again with what is then known: so
+    // The TU-trees for a literal. A T-tree that one of them waits for is opened from here, and the walk begun again with what is then known (how often
+    // shows only at the end, so this is no `for`): so
     // no path of a TU-tree stands above a T-tree, and the stack is linear in the literals.
     #[cycle(walk_trees)]
     fn tu_search(&self, s: &mut State, a: usize) -> bool

@@ -17,7 +17,7 @@ use litset::LitSet;
 // The most entries of a sheet: two for each literal of a full book.
 pub const MAX_SHEET: usize = 4 * book::MAX_NAMES;
 
-// An entry of a proof sheet. The kind is 1 for true and 0 for false. The rule number is read where the kind is 1, the group number where it is 0.
+// An entry of a proof sheet. The kind is 1 for true and 0 for false; it is a number and no enum, since C lends entries of whatever bits. The rule number is read where the kind is 1, the group number where it is 0.
 #[repr(C)]
 #[derive(Clone, Copy)]
 pub struct SheetEntry {
@@ -320,7 +320,7 @@ impl<'a> Check<'a> {
         })
     }
 
-    // Whether all entries follow; the place of the first that doesn't.
+    // Whether all entries follow; the place of the first that doesn't. A turn goes on by an entry or by a whole group, so this is no `for`.
     #[tactic(auto, using(crate::proofs::Turns::come_end, crate::proofs::Turns::come_on, crate::proofs::Turns::come_halt))]
     fn all_follow(&self) -> Result<(), usize>
         ensures { FaultAt (rules_of self.now.book.now) (set_of self.now.facts.words) self.now.known (entry_in self.now.entries.now) (length self.now.entries.now) result }
