@@ -5,44 +5,45 @@ use mathlib.Core.Bool.{Bool, true, false, cond}
 use mathlib.Core.List.{List, [], ◌∷◌, ◌++◌, map, append_assoc, append-nil}
 use Prim.Native.Nat.{ℕ, zero, suc, ◌+◌, ◌*◌, ◌≤◌, ◌<◌}
 use native.Mathlib.Omega.{arith}
-use lib.ListN.{length, length-append, length-replicate}
+use lib.ListN.{length, set, length-append, length-set, length-replicate}
 use Rattle.truth.proofs.Truth.{decided}
 use Rattle.wfsx.specs.Sets.{Set, ◌∈◌, ◌∉◌, ◌∪◌, ◌∖◌, ◌is_in◌, members}
 use Rattle.wfsx.specs.Program.{Rule, positive}
 use Rattle.wfsx.specs.Model.{Γs}
-use Rattle.litset.specs.Words.{capacity}
+use Rattle.std.specs.Prelude.{Option}
+use Rattle.litset.specs.Words.{capacity, from_on}
 use Rattle.book.specs.Limits.{max_names}
 use Rattle.book.specs.Book.{program}
 use Rattle.book.proofs.Rows.{rows_none}
 use Rattle.sheet.specs.Sheet.{max_sheet}
-use Rattle.sheet.specs.Flat.{entry_in, entries_in, with_entry, blank}
+use Rattle.sheet.specs.Flat.{zeros, entry_in, entries_in, blank}
 use Rattle.sheet.specs.declared.SheetEntry.{SheetEntry}
 use Rattle.sheet.specs.declared.Sheet.{Sheet}
-use Rattle.sheet.proofs.Stored.{stored_length, entries_more}
+use Rattle.sheet.proofs.Stored.{entries_more}
 use Rattle.maker.specs.Result.{MadeFor}
-use Rattle.maker.specs.Making.{from_on, member_entry, passed, none_yet, one_more}
+use Rattle.maker.specs.Making.{member_entry, passed, none_yet, one_more}
 use Rattle.maker.specs.declared.Made.{Made}
 use Rattle.maker.proofs.Rounds.{Making, making_start, with_group, group_covers, with_passes, making_few, made_found, made_none}
 
 -- ---- a table for some entries
 
-unfoldable put_all : List ℕ → ℕ → List SheetEntry → List ℕ
-put_all fields i [] = fields
-put_all fields i (e ∷ es) = put_all (with_entry fields i e) (i + 1) es
+unfoldable put_all : List SheetEntry → ℕ → List SheetEntry → List SheetEntry
+put_all table i [] = table
+put_all table i (e ∷ es) = put_all (set table i e) (i + 1) es
 
-all_put : (es : List SheetEntry) (fields : List ℕ) (i : ℕ) → 4 * (i + length es) ≤ length fields → entries_in (put_all fields i es) (i + length es) ≡ entries_in fields i ++ es
+all_put : (es : List SheetEntry) (table : List SheetEntry) (i : ℕ) → i + length es ≤ length table → entries_in (put_all table i es) (i + length es) ≡ entries_in table i ++ es
 unfolding put_all
-all_put [] fields i h = let z : i + 0 ≡ i = omega arith in rw z (sym (append-nil (entries_in fields i)))
-all_put (e ∷ es) fields i h =
+all_put [] table i h = let z : i + 0 ≡ i = omega arith in rw z (sym (append-nil (entries_in table i)))
+all_put (e ∷ es) table i h =
     let z : i + suc (length es) ≡ i + 1 + length es = omega arith in
-    let l = stored_length fields i e in
-    rw z (all_put es (with_entry fields i e) (i + 1) (omega arith)) ∙ ap (λ (a : List SheetEntry). a ++ es) (entries_more fields i e (omega arith)) ∙ append_assoc (entries_in fields i) (e ∷ []) es
+    let l = length-set table i e in
+    rw z (all_put es (set table i e) (i + 1) (omega arith)) ∙ ap (λ (a : List SheetEntry). a ++ es) (entries_more table i e (omega arith)) ∙ append_assoc (entries_in table i) (e ∷ []) es
 
-tabled : (es : List SheetEntry) → length es ≤ max_sheet → (s : Sheet) × (entries_in s.fields (length es) ≡ es)
+tabled : (es : List SheetEntry) → length es ≤ max_sheet → (s : Sheet) × (entries_in s.entries (length es) ≡ es)
 tabled es h =
-    let l : length blank.fields ≡ 4 * max_sheet = length-replicate {A = ℕ} (4 * max_sheet) 0 in
+    let l : length blank.entries ≡ max_sheet = length-replicate {A = SheetEntry} max_sheet zeros in
     let z : 0 + length es ≡ length es = omega arith in
-    (record { fields = put_all blank.fields 0 es }, rw z at (all_put es blank.fields 0 (omega arith)) ∙ ap (λ (a : List SheetEntry). a ++ es) (rows_none (entry_in blank.fields) 0))
+    (record { entries = put_all blank.entries 0 es }, rw z at (all_put es blank.entries 0 (omega arith)) ∙ ap (λ (a : List SheetEntry). a ++ es) (rows_none (entry_in blank.entries) 0))
 
 -- ---- rounds
 
@@ -82,18 +83,18 @@ module _ (rules : List Rule) (facts : Set) (known names : ℕ) (known_is : known
           rest _ _ E (with_passes rules facts known names known_is few facts_room small grouped (one_more none_yet))
           (omega (arith, ap length e, length-append es written, length-append (es ++ written) (passed known E 0 rules T)))
 
-  pub made_exists : (truth : Bool) (A : ℕ) → (m : Made) × MadeFor rules facts known truth A m
+  pub made_exists : (truth : Bool) (A : ℕ) → (m : Option Made) × MadeFor rules facts known truth A m
   made_exists truth A = go (decided (cond truth (w.T A) (w.F A)))
     where
       w : Whole
       w = rounds_from (suc (2 * known)) _ _ _ (making_start rules facts known names known_is few facts_room small refl refl) (omega arith)
 
-      table : (s : Sheet) × (entries_in s.fields (length w.es) ≡ w.es)
+      table : (s : Sheet) × (entries_in s.entries (length w.es) ≡ w.es)
       table = tabled w.es (omega (arith, known_is, making_few rules facts known names known_is few facts_room small w.making))
 
-      there : Making rules facts known (entries_in table.0.fields (length w.es)) w.T w.F
+      there : Making rules facts known (entries_in table.0.entries (length w.es)) w.T w.F
       there = rw table.1 w.making
 
-      go : (cond truth (w.T A) (w.F A) ≡ true) ⊎ (cond truth (w.T A) (w.F A) ≡ false) → (m : Made) × MadeFor rules facts known truth A m
-      go (inl e) = (_, made_found rules facts known names known_is few facts_room small table.0.fields (length w.es) there refl refl truth A e)
-      go (inr e) = (_, made_none rules facts known names known_is few facts_room small table.0.fields (length w.es) there refl refl truth A w.covers w.last e)
+      go : (cond truth (w.T A) (w.F A) ≡ true) ⊎ (cond truth (w.T A) (w.F A) ≡ false) → (m : Option Made) × MadeFor rules facts known truth A m
+      go (inl e) = (_, made_found rules facts known names known_is few facts_room small table.0.entries (length w.es) there refl refl truth A e)
+      go (inr e) = (_, made_none rules facts known names known_is few facts_room small table.0.entries (length w.es) there refl refl truth A w.covers w.last e)

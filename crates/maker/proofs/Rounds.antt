@@ -19,17 +19,20 @@ use Rattle.wfsx.proofs.Program.{compl_plain, compl_negated}
 use Rattle.wfsx.proofs.Facts.{supported_facts}
 use Rattle.wfsx.proofs.Operators.{Γs-has}
 use Rattle.wfsx.proofs.Supported.{supported_elim}
-use Rattle.litset.specs.Words.{capacity, room}
+use Rattle.litset.specs.Words.{n_words, capacity, room, set_of, from_on}
+use Rattle.litset.proofs.Words.{member_room}
 use Rattle.book.specs.Limits.{max_names, max_rules}
-use Rattle.book.specs.Book.{rows, clamp, literal_in, entry_of, body_at, rule_at, rules_in, program, program_of}
+use Rattle.book.specs.Book.{rows, clamp, literal_in, entry_of, body_at, rule_at, rules_in, rules_of, names_of, program, program_of}
 use Rattle.book.specs.declared.Book.{Book}
 use Rattle.book.proofs.Heads.{entry_below, program_of_lem}
+use Rattle.book.proofs.Names.{names_counted}
 use Rattle.book.proofs.Rows.{rows_none, rows_length, rows_map}
 use Rattle.sheet.specs.Sheet.{max_sheet, shown, listed, true_follows, false_follows, names_rule, fact_number, among, kind_of, judgement, judged_by, accepted, rule_numbered, IsSo}
 use Rattle.sheet.specs.Flat.{entry_in, entries_in}
 use Rattle.sheet.specs.declared.SheetEntry.{SheetEntry}
+use Rattle.std.specs.Prelude.{Some, None}
 use Rattle.maker.specs.Result.{Within, MadeFor}
-use Rattle.maker.specs.Making.{from_on, member_entry, adds, passed, with_literals, Passes, none_yet, one_more}
+use Rattle.maker.specs.Making.{member_entry, adds, passed, with_literals, Passes, none_yet, one_more}
 use Rattle.wfsx.proofs.Members.{members_are, length_most, members_same, size_below, size_apart}
 use Rattle.maker.proofs.Stands.{Stands, stands_none, stands_true, stands_group, stands_follows}
 use Rattle.maker.proofs.Complete.{group_follows, known_only, all_true, all_false}
@@ -88,22 +91,22 @@ module _ (rules : List Rule) (known : ℕ) (F : Set) where
 -- ---- the loop of the passes
 
 -- m entries stand in the table
-pub record Grew (rules : List Rule) (known : ℕ) (F : Set) (before : List SheetEntry) (T : Set) (fields : List ℕ) (m : ℕ) (U : Set) : Type 0 where
-  pub passes : Passes rules known F before T (entries_in fields m) U
+pub record Grew (rules : List Rule) (known : ℕ) (F : Set) (before : List SheetEntry) (T : Set) (table : List SheetEntry) (m : ℕ) (U : Set) : Type 0 where
+  pub passes : Passes rules known F before T (entries_in table m) U
   pub bounded : m ≤ size_below known U + size_below known F
-  pub as_long : length fields ≡ 4 * max_sheet
+  pub as_long : length table ≡ max_sheet
 
 module _ {rules : List Rule} {known : ℕ} {F : Set} {T : Set} (few : known ≤ 2 * max_names) where
-  module _ {before : List SheetEntry} {fields : List ℕ} {m : ℕ} {U : Set} (g : Grew rules known F before T fields m U) where
+  module _ {before : List SheetEntry} {table : List SheetEntry} {m : ℕ} {U : Set} (g : Grew rules known F before T table m U) where
     abbrev W : List SheetEntry
     W = passed known F 0 rules U
 
     -- a pass has room
-    pub grew_room : 4 * (m + length W) ≤ length fields
+    pub grew_room : m + length W ≤ length table
     grew_room = omega (arith, g.bounded, g.as_long, passed_most known F 0 rules U, length_most (with_literals W U) 0 known, length_most F 0 known)
 
-    module _ (after : List ℕ) {k : ℕ} {X : Set} (count : k ≡ m + length W) (es : entries_in after k ≡ entries_in fields m ++ W) (lits : X ≡ with_literals W U)
-        (as_long : length after ≡ length fields) where
+    module _ (after : List SheetEntry) {k : ℕ} {X : Set} (count : k ≡ m + length W) (es : entries_in after k ≡ entries_in table m ++ W) (lits : X ≡ with_literals W U)
+        (as_long : length after ≡ length table) where
       next : Passes rules known F before T (entries_in after k) X
       next = subst (λ X. X) (ap₂ (λ (l : List SheetEntry) (Y : Set). Passes rules known F before T l Y) (sym es) (sym lits)) (one_more g.passes)
 
@@ -311,7 +314,7 @@ module _ (rules : List Rule) (facts : Set) (known names : ℕ) (known_is : known
       group_fits : length es + size_below known G ≤ size_below known T + size_below known E
       group_fits = omega (arith, s.bounded, group_size T s.truths_known F G the_group, ap (size_below known) E-is)
 
-      pub group_room : 4 * (length es + size_below known G) ≤ 4 * max_sheet
+      pub group_room : length es + size_below known G ≤ max_sheet
       group_room = omega (arith, known_is, group_fits, length_most T 0 known, length_most E 0 known)
 
       pub with_group : Making rules facts known (es ++ map (member_entry 0 (length es)) (members known G)) T E
@@ -385,13 +388,13 @@ module _ (rules : List Rule) (facts : Set) (known names : ℕ) (known_is : known
 
   -- ---- in a table
 
-  pub start_there : (before after : List ℕ) (n : ℕ) {T F : Set} → T ≡ facts ∖ from_on known → F ≡ ∅
+  pub start_there : (before after : List SheetEntry) (n : ℕ) {T F : Set} → T ≡ facts ∖ from_on known → F ≡ ∅
       → entries_in after n ≡ entries_in before 0 ++ map (member_entry 1 0) (members known facts) → Making rules facts known (entries_in after n) T F
   start_there before after n t f es = rw (es, rows_none (entry_in before) 0) (making_start t f)
 
-  module _ (fields : List ℕ) (n : ℕ) {T F : Set} (s : Making rules facts known (entries_in fields n) T F) where
-    size : length (entries_in fields n) ≡ n
-    size = rows_length (entry_in fields) 0 n
+  module _ (table : List SheetEntry) (n : ℕ) {T F : Set} (s : Making rules facts known (entries_in table n) T F) where
+    size : length (entries_in table n) ≡ n
+    size = rows_length (entry_in table) 0 n
 
     pub few_there : n ≤ 2 * known
     few_there = omega (arith, size, making_few s)
@@ -400,34 +403,22 @@ module _ (rules : List Rule) (facts : Set) (known names : ℕ) (known_is : known
     bound_there = omega (arith, size, s.bounded)
 
     module _ {D G E : Set} (D-is : D ≡ Γs Q T) {all : Set} (all-is : all ≡ from_on 0) (G-is : G ≡ (all ∖ D) ∖ F) (E-is : E ≡ F ∪ G) where
-      pub room_there : length fields ≡ 4 * max_sheet → 4 * (n + size_below known G) ≤ length fields
+      pub room_there : length table ≡ max_sheet → n + size_below known G ≤ length table
       room_there l = omega (arith, size, group_room s D-is all-is G-is E-is)
 
-      pub group_there : (after : List ℕ) (m : ℕ) → entries_in after m ≡ entries_in fields n ++ map (member_entry 0 n) (members known G)
+      pub group_there : (after : List SheetEntry) (m : ℕ) → entries_in after m ≡ entries_in table n ++ map (member_entry 0 n) (members known G)
           → Making rules facts known (entries_in after m) T E
       group_there after m es = rw es (rw size at (with_group s D-is all-is G-is E-is))
 
     -- ---- what is made
 
     module _ {rs : List Rule} {k : ℕ} (rules_are : rules ≡ rs) (is : known ≡ k) (truth : Bool) (A : ℕ) where
-      pub made_found : cond truth (T A) (F A) ≡ true → MadeFor rs facts k truth A (record { found = true; count = n; sheet = record { fields = fields } })
-      made_found c =
-          rw (← rules_are, ← is)
-          (record {
-            few = few_there;
-            passes = λ _. making_passes s truth A c;
-            complete = λ w l so. refl;
-          })
+      pub made_found : cond truth (T A) (F A) ≡ true → MadeFor rs facts k truth A (Some (record { count = n; sheet = record { entries = table } }))
+      made_found c = rw (← rules_are, ← is) (record { few = few_there; passes = making_passes s truth A c; complete = λ w l so. refl })
 
-      pub made_none : ((B : ℕ) → B < capacity → B ∉ Γs Q T → B ∈ F) → passed known F 0 rules T ≡ [] → cond truth (T A) (F A) ≡ false
-          → MadeFor rs facts k truth A (record { found = false; count = n; sheet = record { fields = fields } })
+      pub made_none : ((B : ℕ) → B < capacity → B ∉ Γs Q T → B ∈ F) → passed known F 0 rules T ≡ [] → cond truth (T A) (F A) ≡ false → MadeFor rs facts k truth A None
       made_none covers none c =
-          rw (← rules_are, ← is)
-          (record {
-            few = few_there;
-            passes = λ e. absurd (clash e refl);
-            complete = λ w l so. absurd (clash (making_complete s w covers none truth A l so) c);
-          })
+          rw (← rules_are, ← is) (record { few = tt; passes = tt; complete = λ w l so. absurd (clash (making_complete s w covers none truth A l so) c) })
 
 -- ---- over the tables of a book
 
@@ -439,7 +430,98 @@ rules_small heads starts entries count r m B i =
     rw (ap literal_in e.2) at (entry_below (e.0 ∷ []) 0)
 
 -- Γs of a book, where what counts as a fact is given part by part
-pub derived_is : (b : Book) (known : ℕ) (facts T : Set) {count : ℕ} {unknown both D : Set} → count ≡ clamp max_rules b.rules → unknown ≡ from_on known → both ≡ facts ∪ unknown
-    → D ≡ Γs (program_of b both) T → D ≡ Γs (program (rules_in b.heads b.starts b.entries count) (facts ∪ from_on known)) T
-derived_is b known facts T {count} {unknown} {both} c u v d =
-    d ∙ ap (λ (P : Program). Γs P T) (program_of_lem b both) ∙ ap₂ (λ (n : ℕ) (X : Set). Γs (program (rules_in b.heads b.starts b.entries n) X) T) (sym c) (v ∙ ap (λ (X : Set). facts ∪ X) u)
+pub derived_is : (b : Book) (known : ℕ) (facts T : Set) {unknown both D : Set} → unknown ≡ from_on known → both ≡ facts ∪ unknown → D ≡ Γs (program_of b both) T
+    → D ≡ Γs (program (rules_of b) (facts ∪ from_on known)) T
+derived_is b known facts T {unknown} {both} u v d =
+    d ∙ ap (λ (P : Program). Γs P T) (program_of_lem b both) ∙ ap (λ (X : Set). Γs (program (rules_of b) X) T) (v ∙ ap (λ (X : Set). facts ∪ X) u)
+
+-- ---- a round over a book
+
+known_names : (b : Book) {m : ℕ} → m ≡ clamp max_names b.names → 2 * m ≡ 2 * length (names_of b)
+known_names b counted = ap (λ (i : ℕ). 2 * i) (counted ∙ sym (names_counted b))
+
+-- The book has m names, its sheet the first n entries of a table, and the sets are as they are worked out one from the other. The last is the group.
+pub record Round (b : Book) (facts : Set) (m : ℕ) (table : List SheetEntry) (n : ℕ) (T F G : Set) : Type 0 where
+  pub few : m ≤ max_names
+  pub facts_room : (A : ℕ) → A ∈ facts → A < capacity
+  pub making : Making (rules_of b) facts (2 * m) (entries_in table n) T F
+  pub derived : Set
+  pub derived_are : derived ≡ Γs (program (rules_of b) (facts ∪ from_on (2 * m))) T
+  pub group_are : G ≡ (from_on 0 ∖ derived) ∖ F
+
+module _ (b : Book) (words : List ℕ) (sized : length words ≡ n_words) {m : ℕ} (counted : m ≡ clamp max_names b.names) where
+  few_names : m ≤ max_names
+  few_names = omega (arith, counted)
+
+  body_room : (r : Rule) → r is_in rules_of b → (B : ℕ) → positive B is_in r.body → B < capacity
+  body_room = rules_small b.heads b.starts b.entries (clamp max_rules b.rules)
+
+  pub facts_fit : (2 * m ≤ capacity) × (size_below (2 * m) (set_of words) ≤ max_sheet)
+  facts_fit = let few = few_names in (omega arith, omega (arith, length_most (set_of words) 0 (2 * m)))
+
+  pub round_start : {unknown T F : Set} → unknown ≡ from_on (2 * m) → T ≡ set_of words ∖ unknown → F ≡ ∅ → (before after : List SheetEntry) (n : ℕ)
+      → entries_in after n ≡ entries_in before 0 ++ map (member_entry 1 0) (members (2 * m) (set_of words)) → Making (rules_of b) (set_of words) (2 * m) (entries_in after n) T F
+  round_start u t f before after n es =
+      start_there (rules_of b) (set_of words) (2 * m) m refl few_names (member_room words sized) body_room before after n (t ∙ ap (λ (X : Set). set_of words ∖ X) u) f es
+
+  pub a_round : {table : List SheetEntry} {n : ℕ} {T F : Set} → Making (rules_of b) (set_of words) (2 * m) (entries_in table n) T F
+      → {all unknown both D X G : Set} → all ≡ from_on 0 → unknown ≡ from_on (2 * m) → both ≡ set_of words ∪ unknown → D ≡ Γs (program_of b both) T → X ≡ all ∖ D → G ≡ X ∖ F
+      → Round b (set_of words) m table n T F G
+  a_round {T = T} {F} s {D = D} a u v d x g =
+      record {
+        few = few_names;
+        facts_room = member_room words sized;
+        making = s;
+        derived = D;
+        derived_are = derived_is b (2 * m) (set_of words) T u v d;
+        group_are = g ∙ ap (λ (Y : Set). Y ∖ F) (x ∙ ap (λ (Y : Set). Y ∖ D) a);
+      }
+
+module _ {b : Book} {facts : Set} {m : ℕ} {table : List SheetEntry} {n : ℕ} {T F G : Set} (r : Round b facts m table n T F G) where
+  small_bodies : (q : Rule) → q is_in rules_of b → (B : ℕ) → positive B is_in q.body → B < capacity
+  small_bodies = rules_small b.heads b.starts b.entries (clamp max_rules b.rules)
+
+  pub round_few : n ≤ 4 * m
+  round_few = omega (arith, few_there (rules_of b) facts (2 * m) m refl r.few r.facts_room small_bodies table n r.making)
+
+  pub round_room : length table ≡ max_sheet → (2 * m ≤ capacity) × (n + size_below (2 * m) G ≤ length table)
+  round_room l =
+      let few = r.few in
+      (omega arith, room_there (rules_of b) facts (2 * m) m refl r.few r.facts_room small_bodies table n r.making r.derived_are refl r.group_are refl l)
+
+  -- k entries with the group, E the literals of all groups
+  module _ {E : Set} (together : E ≡ F ∪ G) (after : List SheetEntry) (k : ℕ) (put : entries_in after k ≡ entries_in table n ++ map (member_entry 0 n) (members (2 * m) G)) where
+    grouped : Making (rules_of b) facts (2 * m) (entries_in after k) T E
+    grouped = group_there (rules_of b) facts (2 * m) m refl r.few r.facts_room small_bodies table n r.making r.derived_are refl r.group_are together after k put
+
+    pub round_bound : length after ≡ max_sheet → (2 * m ≤ 2 * max_names) × (length after ≡ max_sheet) × (k ≤ size_below (2 * m) T + size_below (2 * m) E)
+    round_bound l =
+        let few = r.few in
+        (omega arith, l, bound_there (rules_of b) facts (2 * m) m refl r.few r.facts_room small_bodies after k grouped)
+
+    -- j entries with the heads that are shown, U their literals
+    module _ (last : List SheetEntry) (j : ℕ) {U : Set} (shown : Passes (rules_of b) (2 * m) E (entries_in after k) T (entries_in last j) U) where
+      pub round_next : Making (rules_of b) facts (2 * m) (entries_in last j) U E
+      round_next = with_passes (rules_of b) facts (2 * m) m refl r.few r.facts_room small_bodies grouped shown
+
+      longer : k ≤ j
+      longer = omega (arith, passes_longer _ _ _ shown, rows_length (entry_in after) 0 k, rows_length (entry_in last) 0 j)
+
+      -- fewer entries are left to write, where one was written
+      pub round_fewer : n ≤ k → (j ≡ k → ⊥) → 2 * (2 * m) - j < 2 * (2 * m) - n
+      round_fewer h ne = omega (arith, longer, few_there (rules_of b) facts (2 * m) m refl r.few r.facts_room small_bodies last j round_next)
+
+      module _ (counted : m ≡ clamp max_names b.names) (truth : Bool) (A : ℕ) where
+        pub round_found : cond truth (U A) (E A) ≡ true → MadeFor (rules_of b) facts (2 * length (names_of b)) truth A (Some (record { count = j; sheet = record { entries = last } }))
+        round_found c = made_found (rules_of b) facts (2 * m) m refl r.few r.facts_room small_bodies last j round_next refl (known_names b counted) truth A c
+
+        -- where no head was written, all that is so is there
+        pub round_none : j ≡ k → passed (2 * m) E 0 (rules_of b) U ≡ [] → cond truth (U A) (E A) ≡ false → MadeFor (rules_of b) facts (2 * length (names_of b)) truth A None
+        round_none same none c =
+            made_none (rules_of b) facts (2 * m) m refl r.few r.facts_room small_bodies last j round_next refl (known_names b counted) truth A (rw (← truths_same) covers) none c
+          where
+            truths_same : T ≡ U
+            truths_same = passes_same _ _ _ shown (omega (arith, same, rows_length (entry_in after) 0 k, rows_length (entry_in last) 0 j))
+
+            covers : (B : ℕ) → B < capacity → B ∉ Γs (program (rules_of b) (facts ∪ from_on (2 * m))) T → B ∈ E
+            covers = group_covers (rules_of b) facts (2 * m) m refl r.few r.facts_room small_bodies r.making r.derived_are refl r.group_are together

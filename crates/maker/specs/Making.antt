@@ -1,19 +1,15 @@
 -- What the functions of the maker tell each other.
-use Rattle.std.specs.Prelude.{Bool, not, cond, ◌&&◌, List, [], ◌∷◌, ◌++◌, ◌≡◌, ℕ, suc, ◌+◌, eqb, ltb, leb, length}
-use Rattle.wfsx.specs.Sets.{Set, add}
+use Rattle.std.specs.Prelude.{Bool, not, cond, ◌&&◌, List, [], ◌∷◌, ◌++◌, ◌≡◌, ℕ, suc, ◌+◌, eqb, ltb, length, map}
+use Rattle.wfsx.specs.Sets.{Set, add, members}
 use Rattle.wfsx.specs.Program.{Rule}
 use Rattle.wfsx.specs.Model.{every}
-use Rattle.litset.specs.Words.{room, set_of}
+use Rattle.litset.specs.Words.{set_of}
 use Rattle.sheet.specs.Sheet.{shown, fact_number}
 use Rattle.sheet.specs.Flat.{entries_in}
 use Rattle.sheet.specs.declared.SheetEntry.{SheetEntry}
-use Rattle.maker.specs.declared.Grown.{Grown}
+use Rattle.maker.specs.declared.Draft.{Draft}
 
 -- ---- the entries that are written
-
--- the literals from k on for which a set has room
-abbrev pub from_on : ℕ → Set
-from_on k A = leb k A && room A
 
 -- for the fact A where the kind is 1, and for A in the group g where it is 0
 abbrev pub member_entry : (kind g A : ℕ) → SheetEntry
@@ -37,14 +33,35 @@ unfoldable pub with_literals : List SheetEntry → Set → Set
 with_literals [] T = T
 with_literals (e ∷ es) T = with_literals es (add e.literal T)
 
--- what one pass over all rules leaves: n entries stand in the table before it
-pub record PassOf (rules : List Rule) (known : ℕ) (F T : Set) (before : List ℕ) (n : ℕ) (after : List ℕ) (r : Grown) : Type 0 where
-  pub count : r.count ≡ n + length (passed known F 0 rules T)
-  pub entries : entries_in after r.count ≡ entries_in before n ++ passed known F 0 rules T
-  pub truths : set_of r.truths.words ≡ with_literals (passed known F 0 rules T) T
+-- what is left where entries for the members of S below `known` are put behind a draft's
+pub record MembersPut (kind g known : ℕ) (S : Set) (d d' : Draft) : Type 0 where
+  pub count : d'.count ≡ d.count + length (members known S)
+  pub entries : entries_in d'.sheet.entries d'.count ≡ entries_in d.sheet.entries d.count ++ map (member_entry kind g) (members known S)
+  pub truths : d'.truths ≡ d.truths
+  pub falses : d'.falses ≡ d.falses
+  pub room : length d'.sheet.entries ≡ length d.sheet.entries
+
+-- the entries of one pass over all rules
+abbrev pub pass : List Rule → ℕ → Draft → List SheetEntry
+pass rules known d = passed known (set_of d.falses.words) 0 rules (set_of d.truths.words)
+
+-- what one pass over all rules leaves
+pub record PassOf (rules : List Rule) (known : ℕ) (d d' : Draft) : Type 0 where
+  pub count : d'.count ≡ d.count + length (pass rules known d)
+  pub entries : entries_in d'.sheet.entries d'.count ≡ entries_in d.sheet.entries d.count ++ pass rules known d
+  pub truths : set_of d'.truths.words ≡ with_literals (pass rules known d) (set_of d.truths.words)
+  pub falses : d'.falses ≡ d.falses
+  pub room : length d'.sheet.entries ≡ length d.sheet.entries
 
 -- passes over the rules, one after the other: from the entries `before` and the set T they lead to `after` and U
 pub data Passes (rules : List Rule) (known : ℕ) (F : Set) (before : List SheetEntry) (T : Set) : List SheetEntry → Set → Type 0 where
   none_yet : Passes rules known F before T before T
   one_more : {after : List SheetEntry} {U : Set} → Passes rules known F before T after U
       → Passes rules known F before T (after ++ passed known F 0 rules U) (with_literals (passed known F 0 rules U) U)
+
+-- what passes over the rules leave where the last adds nothing
+pub record AllPassed (rules : List Rule) (known : ℕ) (d d' : Draft) : Type 0 where
+  pub passes : Passes rules known (set_of d.falses.words) (entries_in d.sheet.entries d.count) (set_of d.truths.words) (entries_in d'.sheet.entries d'.count) (set_of d'.truths.words)
+  pub last : pass rules known d' ≡ []
+  pub falses : d'.falses ≡ d.falses
+  pub room : length d'.sheet.entries ≡ length d.sheet.entries

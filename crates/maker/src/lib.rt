@@ -2,43 +2,36 @@
 // all known literals that nothing can derive over what is shown so far, and then "true" entries by passes over the rules, until a pass adds none.
 #![tactic(auto)]
 
-ghost use Rattle.std.specs.Prelude.{◌≡◌, cond, [], map, ◌++◌, ◌+◌, ◌*◌, ◌≤◌, ◌<◌, length};
+ghost use Rattle.std.specs.Prelude.{◌≡◌, cond, ◌+◌, ◌*◌, ◌≤◌, ◌<◌, length};
 ghost use Rattle.wfsx.specs.Sets.{members};
 ghost use Rattle.litset.specs.Words.{capacity, set_of};
-ghost use Rattle.book.specs.Limits.{max_names, max_rules};
-ghost use Rattle.book.specs.Book.{rule_at, rules_in, rules_of, names_of};
+ghost use Rattle.book.specs.Limits.{max_names};
+ghost use Rattle.book.specs.Book.{rule_at, rules_of, names_of};
 ghost use Rattle.sheet.specs.Sheet.{max_sheet};
-ghost use Rattle.sheet.specs.Flat.{entries_in};
 ghost use Rattle.maker.specs.Result.{MadeFor};
-ghost use Rattle.maker.specs.Making.{from_on, member_entry, adds, passed, PassOf, Passes};
+ghost use Rattle.maker.specs.Making.{member_entry, adds, passed, MembersPut, PassOf, AllPassed};
 
 use book::Book;
 use litset::LitSet;
 use sheet::{Sheet, SheetEntry};
 
-// Whether a sheet was found for a claim, how many entries it has, and the sheet.
+// A sheet, and how many entries it has.
 #[derive(Clone, Copy)]
 pub struct Made {
-    pub found: bool,
     pub count: usize,
     pub sheet: Sheet,
 }
 
-// The literals from k on for which a set has room.
-fn from(k: usize) -> LitSet
-    requires { k ≤ capacity }
-    ensures { set_of result.words ≡ from_on k }
-{
-    let mut s = litset::empty();
-    let mut l = k;
-    while l < litset::CAPACITY {
-        s = litset::insert(s, l);
-        l += 1;
-    }
-    s
+// A sheet that is being made: its entries so far, how many they are, and the literals of the "true" and the "false" ones.
+#[derive(Clone, Copy)]
+struct Draft {
+    sheet: Sheet,
+    count: usize,
+    truths: LitSet,
+    falses: LitSet,
 }
 
-// ---- facts and groups
+// ---- the entries for facts and groups
 
 // The entry for a fact, where the kind is 1, or for a literal of a group.
 fn member_entry(kind: u16, group: u16, literal: usize) -> SheetEntry
@@ -61,197 +54,124 @@ fn member_entry(kind: u16, group: u16, literal: usize) -> SheetEntry
     }
 }
 
-// Entries for the members of a set below `known`, from place n on; where they end.
-fn put_members(
-    fields: &mut [u16],
-    n: usize,
-    s: LitSet,
-    known: usize,
-    kind: u16,
-    group: u16,
-) -> usize
-    requires { (known ≤ capacity) × (4 * (n + length (members known (set_of s.words))) ≤ length fields.old) }
-    ensures { (result ≡ n + length (members known (set_of s.words)))
-        × (entries_in fields.new result ≡ entries_in fields.old n ++ map (member_entry kind group) (members known (set_of s.words))) }
-{
-    let mut m = n;
-    let mut l: usize = 0;
-    while l < known {
-        if !litset::contains(s, l) {
-            l += 1;
-            continue;
-        }
-        sheet::put_entry(fields, m, member_entry(kind, group, l));
-        m += 1;
-        l += 1;
-    }
-    m
-}
-
 // ---- rules
 
 // Whether rule r adds its head to t.
-fn rule_adds<'a>(
-    heads: &'a [u16],
-    starts: &'a [u16],
-    entries: &'a [u16],
-    r: usize,
-    known: usize,
-    t: LitSet,
-    f: LitSet,
-) -> bool
-    ensures { result ≡ adds known (set_of t.words) (set_of f.words) (rule_at heads.now starts.now entries.now r) }
+fn rule_adds(book: &Book, r: usize, known: usize, t: LitSet, f: LitSet) -> bool
+    ensures { result
+        ≡ adds known (set_of t.words) (set_of f.words) (rule_at book.now.heads book.now.starts book.now.entries r) }
 {
-    let head = book::head_at(heads, r);
+    let head = book::head_at(&book.heads, r);
     if known <= head {
         return false;
     }
     if litset::contains(t, head) {
         return false;
     }
-    sheet::body_as(starts, entries, r, t, f, true)
+    sheet::body_as(book, r, t, f, true)
 }
 
-// How many entries there are, and the literals of the "true" ones.
-#[derive(Clone, Copy)]
-struct Grown {
-    count: usize,
-    truths: LitSet,
-}
+// ---- the parts of a sheet
 
-// One pass over the rules: entries from place n on for those that add their heads.
-fn put_shown<'a>(
-    heads: &'a [u16],
-    starts: &'a [u16],
-    entries: &'a [u16],
-    count: usize,
-    fields: &mut [u16],
-    n: usize,
-    known: usize,
-    t: LitSet,
-    f: LitSet,
-) -> Grown
-    requires { (count ≤ max_rules)
-        × (4 * (n + length (passed known (set_of f.words) 0 (rules_in heads.now starts.now entries.now count) (set_of t.words))) ≤ length fields.old) }
-    ensures { PassOf (rules_in heads.now starts.now entries.now count) known (set_of f.words) (set_of t.words)
-        fields.old n fields.new result }
-{
-    let mut m = n;
-    let mut truths = t;
-    let mut r: usize = 0;
-    while r < count {
-        if !rule_adds(heads, starts, entries, r, known, truths, f) {
-            r += 1;
-            continue;
+impl Draft {
+    // Entries for the members of a set below `known`.
+    fn put_members(&mut self, s: LitSet, known: usize, kind: u16, group: u16)
+        requires { (known ≤ capacity) × (self.old.count + length (members known (set_of s.words)) ≤ length self.old.sheet.entries) }
+        ensures { MembersPut kind group known (set_of s.words) self.old self.new }
+    {
+        for l in 0..known {
+            if !litset::contains(s, l) {
+                continue;
+            }
+            sheet::put_entry(
+                &mut self.sheet.entries,
+                self.count,
+                member_entry(kind, group, l),
+            );
+            self.count += 1;
         }
-        let head = book::head_at(heads, r);
-        sheet::put_entry(
-            fields,
-            m,
-            SheetEntry {
+    }
+
+    // One pass over the rules: entries for those that add their heads.
+    fn put_shown(&mut self, book: &Book, known: usize)
+        requires { self.old.count + length (passed known (set_of self.old.falses.words) 0 (rules_of book.now) (set_of self.old.truths.words)) ≤ length self.old.sheet.entries }
+        ensures { PassOf (rules_of book.now) known self.old self.new }
+    {
+        for r in 0..book::rule_count(*book) {
+            if !rule_adds(book, r, known, self.truths, self.falses) {
+                continue;
+            }
+            let head = book::head_at(&book.heads, r);
+            let e = SheetEntry {
                 kind: 1,
                 literal: head as u16,
                 rule: r as u16,
                 group: 0,
-            },
-        );
-        truths = litset::insert(truths, head);
-        m += 1;
-        r += 1;
-    }
-    Grown { count: m, truths }
-}
-
-// Passes over the rules until one adds nothing.
-fn put_truths<'a>(
-    heads: &'a [u16],
-    starts: &'a [u16],
-    entries: &'a [u16],
-    count: usize,
-    fields: &mut [u16],
-    n: usize,
-    known: usize,
-    t: LitSet,
-    f: LitSet,
-) -> Grown
-    requires { (count ≤ max_rules) × (known ≤ 2 * max_names) × (length fields.old ≡ 4 * max_sheet)
-        × (n ≤ length (members known (set_of t.words)) + length (members known (set_of f.words))) }
-    ensures { Passes (rules_in heads.now starts.now entries.now count) known (set_of f.words)
-        (entries_in fields.old n) (set_of t.words) (entries_in fields.new result.count) (set_of result.truths.words)
-        × (passed known (set_of f.words) 0 (rules_in heads.now starts.now entries.now count) (set_of result.truths.words) ≡ []) }
-{
-    let mut m = n;
-    let mut truths = t;
-    loop {
-        let s = put_shown(heads, starts, entries, count, fields, m, known, truths, f);
-        if s.count == m {
-            return s;
+            };
+            sheet::put_entry(&mut self.sheet.entries, self.count, e);
+            self.truths = litset::insert(self.truths, head);
+            self.count += 1;
         }
-        m = s.count;
-        truths = s.truths;
+    }
+
+    // Passes over the rules until one adds nothing: how many there are shows only then, so this is no `for`.
+    fn put_truths(&mut self, book: &Book, known: usize)
+        requires { (known ≤ 2 * max_names) × (length self.old.sheet.entries ≡ max_sheet)
+            × (self.old.count ≤ length (members known (set_of self.old.truths.words)) + length (members known (set_of self.old.falses.words))) }
+        ensures { AllPassed (rules_of book.now) known self.old self.new }
+    {
+        loop {
+            let before = self.count;
+            self.put_shown(book, known);
+            if self.count == before {
+                return;
+            }
+        }
+    }
+
+    // Whether the literal is among those of the entries of its kind.
+    fn claims(&self, literal: usize, truth: bool) -> bool
+        ensures { result ≡ cond truth (set_of self.now.truths.words literal) (set_of self.now.falses.words literal) }
+    {
+        litset::contains(if truth { self.truths } else { self.falses }, literal)
     }
 }
 
 // ---- the sheet
 
-// Whether the literal is among those of the entries of its kind.
-fn is_claimed(t: LitSet, f: LitSet, literal: usize, truth: bool) -> bool
-    ensures { result ≡ cond truth (set_of t.words literal) (set_of f.words literal) }
+// The sheet for a claim, if there is one. Literals that are not known have no entries, so they count as facts in Γs: then a group follows whatever the book's
+// bits are.
+pub fn make(book: &Book, facts: LitSet, literal: usize, truth: bool) -> Option<Made>
+    ensures { MadeFor (rules_of book.now) (set_of facts.words) (2 * length (names_of book.now)) truth literal result }
 {
-    if truth {
-        return litset::contains(t, literal);
-    }
-    litset::contains(f, literal)
-}
-
-// What is made, in a table.
-fn in_table(found: bool, count: usize, fields: [u16; sheet::MAX_FIELDS]) -> Made
-    ensures { result ≡ record { found = found; count = count; sheet = record { fields = fields } } }
-{
-    let sheet = Sheet { fields };
-    Made {
-        found,
-        count,
-        sheet,
-    }
-}
-
-// The sheet for a claim. Literals that are not known have no entries, so they count as facts in Γs: then a group follows whatever the book's bits are.
-pub fn make(book: Book, facts: LitSet, literal: usize, truth: bool) -> Made
-    ensures { MadeFor (rules_of book) (set_of facts.words) (2 * length (names_of book)) truth literal result }
-{
-    let known = 2 * book::name_count(book);
-    let count = book::rule_count(book);
-    let all = from(0);
-    let unknown = from(known);
-    let mut fields = [0u16; sheet::MAX_FIELDS];
-    let mut t = litset::difference(facts, unknown);
-    let mut f = litset::empty();
-    let mut n = put_members(&mut fields, 0, facts, known, 1, 0);
+    let known = 2 * book::name_count(*book);
+    let all = litset::from(0);
+    let unknown = litset::from(known);
+    let mut d = Draft {
+        sheet: sheet::blank(),
+        count: 0,
+        truths: litset::difference(facts, unknown),
+        falses: litset::empty(),
+    };
+    d.put_members(facts, known, 1, 0);
+    // How many rounds there are shows only at the end, so this is no `for`.
     loop {
-        let derived = fixpoint::gamma_s(book, litset::union(facts, unknown), t);
-        let group = litset::difference(litset::difference(all, derived), f);
-        let m = put_members(&mut fields, n, group, known, 0, n as u16);
-        f = litset::union(f, group);
-        let s = put_truths(
-            &book.heads,
-            &book.starts,
-            &book.entries,
-            count,
-            &mut fields,
-            m,
-            known,
-            t,
-            f,
-        );
-        n = s.count;
-        t = s.truths;
-        if is_claimed(t, f, literal, truth) {
-            return in_table(true, n, fields);
+        let derived = fixpoint::gamma_s(*book, litset::union(facts, unknown), d.truths);
+        let group = litset::difference(litset::difference(all, derived), d.falses);
+        let number = d.count as u16;
+        d.put_members(group, known, 0, number);
+        d.falses = litset::union(d.falses, group);
+        let grouped = d.count;
+        d.put_truths(book, known);
+        if d.claims(literal, truth) {
+            return Some(Made {
+                count: d.count,
+                sheet: d.sheet,
+            });
         }
-        let done = n == m;
+        let done = d.count == grouped;
         if done {
-            return in_table(false, n, fields);
+            return None;
         }
     }
 }

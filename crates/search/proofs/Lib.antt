@@ -1,5 +1,6 @@
 -- The laws of the walk.
 pub mod Marks
+pub mod Codes
 pub mod Answers
 pub mod Stock
 pub mod Visits

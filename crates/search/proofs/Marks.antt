@@ -119,29 +119,26 @@ module _ (from to : ℕ) (some-mark : 0 < from) where
 -- ---- a table filled place by place
 
 -- before place i stand the values of f, and behind it the table as it was
-pub record FilledTo (f : ℕ → ℕ) (s : List ℕ) (i : ℕ) (s' : List ℕ) : Type 0 where
+pub record FilledTo {X : Type 0} (d : X) (f : ℕ → X) (s : List X) (i : ℕ) (s' : List X) : Type 0 where
   pub room : length s' ≡ length s
-  pub done : (A : ℕ) → A < i → get_or s' A 0 ≡ f A
-  pub left : (A : ℕ) → i ≤ A → get_or s' A 0 ≡ get_or s A 0
+  pub done : (A : ℕ) → A < i → get_or s' A d ≡ f A
+  pub left : (A : ℕ) → i ≤ A → get_or s' A d ≡ get_or s A d
 
-pub filled_none : (f : ℕ → ℕ) (s : List ℕ) → FilledTo f s 0 s
-filled_none f s = record { room = refl; done = λ A h. absurd (omega arith); left = λ A h. refl }
+module _ {X : Type 0} (d : X) (f : ℕ → X) (s : List X) (i : ℕ) (s' : List X) (h : FilledTo d f s i s') where
+  pub filled_more : i < length s' → (v : X) → v ≡ f i → FilledTo d f s (i + 1) (set s' i v)
+  filled_more l v e =
+      record {
+        room = length-set s' i v ∙ h.room;
+        done = λ A k. go A k (ℕ_discrete A i);
+        left = λ A k. get_or-set_other s' i A v d (λ q. omega arith) ∙ h.left A (omega arith);
+      }
+    where
+      go : (A : ℕ) → A < i + 1 → Dec (A ≡ i) → get_or (set s' i v) A d ≡ f A
+      go A k (yes q) = rw q (get_or-set_same s' i v d l ∙ e)
+      go A k (no n) = get_or-set_other s' i A v d n ∙ h.done A (omega arith)
 
-pub filled_more : (f : ℕ → ℕ) (s : List ℕ) (i : ℕ) (s' : List ℕ) → FilledTo f s i s' → i < length s' → (v : ℕ) → v ≡ f i → FilledTo f s (i + 1) (set s' i v)
-filled_more f s i s' h l v e =
-    record {
-      room = length-set s' i v ∙ h.room;
-      done = λ A k. go A k (ℕ_discrete A i);
-      left = λ A k. get_or-set_other s' i A v 0 (λ q. omega arith) ∙ h.left A (omega arith);
-    }
-  where
-    go : (A : ℕ) → A < i + 1 → Dec (A ≡ i) → get_or (set s' i v) A 0 ≡ f A
-    go A k (yes q) = rw q (get_or-set_same s' i v 0 l ∙ e)
-    go A k (no n) = get_or-set_other s' i A v 0 n ∙ h.done A (omega arith)
-
-module _ (f : ℕ → ℕ) (s : List ℕ) (i : ℕ) (s' : List ℕ) (h : FilledTo f s i s') (all : length s ≤ i) where
-  pub filled_is : (r : List ℕ) → length r ≡ length s → ((A : ℕ) → A < length s → get_or r A 0 ≡ f A) → s' ≡ r
-  filled_is r l e = ext_get_or 0 s' r (h.room ∙ sym l) (λ A k. h.done A (omega (arith, h.room)) ∙ sym (e A (omega (arith, h.room))))
+  pub filled_is : length s ≤ i → (r : List X) → length r ≡ length s → ((A : ℕ) → A < length s → get_or r A d ≡ f A) → s' ≡ r
+  filled_is all r l e = ext_get_or d s' r (h.room ∙ sym l) (λ A k. h.done A (omega (arith, h.room)) ∙ sym (e A (omega (arith, h.room))))
 
 -- ---- how many marks pass a test
 

@@ -30,7 +30,7 @@ use Rattle.search.specs.declared.Tree as declared
 use Rattle.search.specs.Questions.{tree_of, question_of, decided_by}
 use Rattle.search.specs.Bound.{most_visits}
 use Rattle.search.specs.Marks.{marked, above_in}
-use Rattle.search.specs.Walk.{State, state, program_by, rule_in, head_in, Resting, Paid, Ready, TVisit, TuSearch}
+use Rattle.search.specs.Walk.{State, state, program_by, rule_by, head_by, Resting, Paid, Ready, TVisit, TuSearch}
 use Rattle.search.proofs.Marks.{marked_not}
 use Rattle.search.proofs.Answers.{Joined}
 use Rattle.search.proofs.Stock.{left_most}
@@ -52,7 +52,7 @@ module _ (first rules starts entries facts : List ℕ) (long : length facts ≡ 
       below f A small = supported_below first rules starts entries f A capacity ∙ rw (lt-ltb A capacity small) refl
 
   -- its heads are the facts and the literals that have rules
-  pub headed_is : (A : ℕ) → A < capacity → headed P A ≡ head_in first rules facts A
+  pub headed_is : (A : ℕ) → A < capacity → headed P A ≡ head_by first rules facts A
   headed_is A small = joined_by.joined (λ e. true) A small ∙ go (dec_lt (rules_start first A) (rules_end first rules A)) (set_of facts A)
     where
       or_swap : (b c : Bool) → (b || c) ≡ (c || b)
@@ -67,8 +67,8 @@ module _ (first rules starts entries facts : List ℕ) (long : length facts ≡ 
       go (no h) b = rw (rules_none first rules starts entries A (λ e. true) (omega arith), le-ltb (rules_start first A) (rules_end first rules A) (omega arith)) (or_swap false b)
 
   -- as the walk finds it
-  pub headed_by : (A : ℕ) → A < capacity → (fact r : Bool) → fact ≡ set_of facts A → r ≡ (fact || rule_in first rules A) → headed P A ≡ r
-  headed_by A small fact r e q = headed_is A small ∙ ap (λ (b : Bool). b || rule_in first rules A) (sym e) ∙ sym q
+  pub headed_by : (A : ℕ) → A < capacity → (fact r : Bool) → fact ≡ set_of facts A → r ≡ (fact || rule_by first rules A) → headed P A ≡ r
+  headed_by A small fact r e q = headed_is A small ∙ ap (λ (b : Bool). b || rule_by first rules A) (sym e) ∙ sym q
 
 -- ---- tables in which nothing stands
 

@@ -7,7 +7,7 @@ use Prim.Native.Nat.{ℕ, ◌+◌, ◌≤◌, ◌<◌}
 use native.Mathlib.Omega.{arith}
 use lib.Dec.{eqb}
 use lib.ListN.{length, get_or, set, length-set}
-use borrow.Author.Tests.{eqb-true, eqb-false}
+use borrow.Author.Tests.{eqb-true, eqb-false, ne_eqb}
 use Rattle.truth.proofs.Truth.{clash}
 use Rattle.wfsx.specs.Sets.{Set, ◌∈◌, ◌∉◌, ∅, add}
 use Rattle.wfsx.specs.Program.{Entry, Program}
@@ -25,7 +25,7 @@ use Rattle.search.proofs.Stock.{t_fact_less, t_mark_less, t_fails_left, t_holds_
 use Rattle.search.proofs.Visits.{T≢TU, walked_none, paid_none}
 
 -- its mark is known
-pub t_known : {P : Program} {s : State} {over : ℕ} → Ready P T s over → (a : ℕ) → (get_or s.t a 0 ≡ 0 → ⊥) → TVisit P s s a (eqb (get_or s.t a 0) 1)
+t_known : {P : Program} {s : State} {over : ℕ} → Ready P T s over → (a : ℕ) → (get_or s.t a 0 ≡ 0 → ⊥) → TVisit P s s a (eqb (get_or s.t a 0) 1)
 t_known {s = s} r a z =
     record {
       settled = record {
@@ -38,6 +38,12 @@ t_known {s = s} r a z =
       pays = λ e _. absurd (z e);
       less = λ e _. absurd (z e);
     }
+
+pub t_known_holds : {P : Program} {s : State} {over : ℕ} → Ready P T s over → (a : ℕ) → get_or s.t a 0 ≡ 1 → TVisit P s s a true
+t_known_holds r a e = rw e at (t_known r a (λ z. omega arith))
+
+pub t_known_fails : {P : Program} {s : State} {over : ℕ} → Ready P T s over → (a : ℕ) → (get_or s.t a 0 ≡ 0 → ⊥) → (get_or s.t a 0 ≡ 1 → ⊥) → TVisit P s s a false
+t_known_fails {s = s} r a z n = rw (ne_eqb (get_or s.t a 0) 1 n) at (t_known r a z)
 
 -- it is no head: it fails, and nothing is marked
 pub t_bare : {P : Program} {s : State} {over : ℕ} → Ready P T s over → (a : ℕ) → a ∉ headed P → TVisit P s s a false

@@ -67,13 +67,19 @@ stays : {P : Program} {s : State} {a : ℕ} {f : Finding} → Visited P TU s s (
 stays v = record { visited = v; shuts_none = λ e A m. m }
 
 -- its mark is known
-pub u_known : {P : Program} {s : State} → Ready P TU s 0 → (a : ℕ) → (get_or s.u a 0 ≡ 0 → ⊥) → TuVisit P s s a (found (eqb (get_or s.u a 0) 2))
+u_known : {P : Program} {s : State} → Ready P TU s 0 → (a : ℕ) → (get_or s.u a 0 ≡ 0 → ⊥) → TuVisit P s s a (found (eqb (get_or s.u a 0) 2))
 unfolding Says
 u_known {P} {s} r a z = go (ℕ_discrete (get_or s.u a 0) 2)
   where
     go : Dec (get_or s.u a 0 ≡ 2) → TuVisit P s s a (found (eqb (get_or s.u a 0) 2))
     go (yes e) = rw (eq-eqb (get_or s.u a 0) 2 e) (stays (record { walked = walked_none TU r.tables; says = (u_holds r.tables a e, r.resting); spent = spent_none Finding.Holds }))
     go (no n) = rw (ne_eqb (get_or s.u a 0) 2 n) (stays (record { walked = walked_none TU r.tables; says = (u_not r.tables a r.resting n z, r.resting); spent = spent_none Finding.Fails }))
+
+pub u_known_holds : {P : Program} {s : State} → Ready P TU s 0 → (a : ℕ) → get_or s.u a 0 ≡ 2 → TuVisit P s s a Finding.Holds
+u_known_holds r a e = rw e at (u_known r a (λ z. omega arith))
+
+pub u_known_fails : {P : Program} {s : State} → Ready P TU s 0 → (a : ℕ) → (get_or s.u a 0 ≡ 0 → ⊥) → (get_or s.u a 0 ≡ 2 → ⊥) → TuVisit P s s a Finding.Fails
+u_known_fails {s = s} r a z n = rw (ne_eqb (get_or s.u a 0) 2 n) at (u_known r a z)
 
 -- it is no head
 pub u_bare : {P : Program} {s : State} → Ready P TU s 0 → (a : ℕ) → a ∉ headed P → TuVisit P s s a Finding.Fails

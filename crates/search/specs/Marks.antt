@@ -3,6 +3,33 @@
 use Rattle.std.specs.Prelude.{Bool, true, false, not, cond, ◌&&◌, List, [], ◌∷◌, map, ℕ, suc, eqb, get_or, set}
 use Rattle.wfsx.specs.Sets.{Set}
 use Rattle.search.specs.declared.Finding.{Finding}
+use Rattle.search.specs.declared.Mark.{Mark}
+use Rattle.search.specs.declared.Mark.TheVariants.{Unknown, Proved, Failed, Above, False, Held, Shut, Path}
+
+-- the number of a mark in the table of T-trees, and in that of TU-trees; the marks of the other kind of trees have numbers that no law is about
+abbrev pub t_code : Mark → ℕ
+t_code Unknown = 0
+t_code Proved = 1
+t_code Failed = 2
+t_code Above = 3
+t_code False = 4
+t_code Held = 5
+t_code Shut = 6
+t_code Path = 7
+
+abbrev pub u_code : Mark → ℕ
+u_code Unknown = 0
+u_code False = 1
+u_code Held = 2
+u_code Shut = 3
+u_code Path = 4
+u_code Proved = 5
+u_code Failed = 6
+u_code Above = 7
+
+-- the mark `from` becomes `to`
+abbrev pub turned_mark : Mark → Mark → Mark → Mark
+turned_mark from to m = cond (eqb (t_code m) (t_code from)) to m
 
 -- the literals that have the mark v
 unfoldable pub marked : ℕ → List ℕ → Set

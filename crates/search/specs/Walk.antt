@@ -1,16 +1,18 @@
 -- What a walk of the trees is handed, what it leaves and what it says (document 01, "From a question to its trees"; document 02, A.6). Each
 -- answer lies between two answers of the trees' own definition, and at the question both are the same.
-use Rattle.std.specs.Prelude.{◌≡◌, Bool, true, false, ◌||◌, List, ℕ, ◌+◌, ◌*◌, ◌≤◌, ◌<◌, ltb, length, get_or}
+use Rattle.std.specs.Prelude.{◌≡◌, Bool, true, false, ◌||◌, List, ℕ, ◌+◌, ◌*◌, ◌≤◌, ◌<◌, ltb, length, get_or, map, replicate}
 use Rattle.wfsx.specs.Sets.{Set, ◌∈◌, ◌∉◌, ◌⊆◌, ∅}
 use Rattle.wfsx.specs.Program.{Entry, Program}
 use Rattle.wfsx.specs.Model.{headed, head_count}
 use Rattle.wfsx.specs.Trees.{Tree, T, TU, child, tree}
 use Rattle.litset.specs.Words.{capacity, set_of}
 use Rattle.book.specs.Book.{program}
-use Rattle.index.specs.Index.{rules_start, rules_end, rules_by}
+use Rattle.index.specs.Index.{rules_start, rules_end, rules_by, supported_by}
 use Rattle.search.specs.Bound.{most_visits}
-use Rattle.search.specs.Marks.{proved_in, failed_in, above_in, false_in, held_in, shut_in, path_in, others, blanks, without}
+use Rattle.search.specs.Marks.{t_code, u_code, proved_in, failed_in, above_in, false_in, held_in, shut_in, path_in, others, blanks, without}
 use Rattle.search.specs.declared.Finding.{Finding}
+use Rattle.search.specs.declared.State as declared
+use Rattle.search.specs.declared.over.Walk.{Walk}
 
 -- ---- what it is handed
 
@@ -19,13 +21,27 @@ unfoldable pub program_by : (first rules starts entries facts : List ℕ) → Pr
 program_by first rules starts entries facts = program (rules_by first rules starts entries capacity) (set_of facts)
 
 -- the literals that have a rule, and the heads of that program
-abbrev pub rule_in : (first rules : List ℕ) → Set
-rule_in first rules A = ltb (rules_start first A) (rules_end first rules A)
+abbrev pub rule_by : (first rules : List ℕ) → Set
+rule_by first rules A = ltb (rules_start first A) (rules_end first rules A)
 
-abbrev pub head_in : (first rules facts : List ℕ) → Set
-head_in first rules facts A = set_of facts A || rule_in first rules A
+abbrev pub head_by : (first rules facts : List ℕ) → Set
+head_by first rules facts A = set_of facts A || rule_by first rules A
 
--- the two tables of marks, and how many nodes have asked their rules
+-- the same of a `Walk`
+abbrev pub program_in : Walk → Program
+program_in w = program_by w.index.now.starts w.index.now.rules w.book.now.starts w.book.now.entries w.facts.words
+
+-- whether some rule of a literal has a body all of whose entries pass a test
+abbrev pub rules_in : Walk → (Entry → Bool) → Set
+rules_in w = supported_by w.index.now.starts w.index.now.rules w.book.now.starts w.book.now.entries
+
+abbrev pub rule_in : Walk → Set
+rule_in w = rule_by w.index.now.starts w.index.now.rules
+
+abbrev pub head_in : Walk → Set
+head_in w = head_by w.index.now.starts w.index.now.rules w.facts.words
+
+-- the two tables of marks by their numbers, and how many nodes have asked their rules
 pub record State : Type 0 where
   pub t : List ℕ
   pub u : List ℕ
@@ -33,6 +49,14 @@ pub record State : Type 0 where
 
 abbrev pub state : List ℕ → List ℕ → ℕ → State
 state t u visits = record { t = t; u = u; visits = visits }
+
+-- what a `State` of the code says
+abbrev pub coded : declared.State → State
+coded s = state (map t_code s.t) (map u_code s.u) s.visits
+
+-- nothing is marked, and no node has asked its rules
+abbrev pub blank : State
+blank = state (replicate capacity 0) (replicate capacity 0) 0
 
 -- ---- what the marks say is so
 

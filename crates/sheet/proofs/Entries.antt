@@ -10,7 +10,8 @@ use native.Mathlib.Decide.{dec_lt, ℕ_discrete}
 use native.Mathlib.Omega.{arith}
 use lib.Dec.{eqb, ltb}
 use borrow.Author.Tests.{eqb-true, lt-ltb, le-ltb}
-use Rattle.truth.proofs.Truth.{decided}
+use Rattle.std.specs.Prelude.{Ok, Err}
+use Rattle.truth.proofs.Truth.{decided, or_r}
 use Rattle.wfsx.specs.Sets.{Set, ∅, add}
 use Rattle.litset.specs.Words.{capacity, with}
 use Rattle.book.specs.Book.{rows}
@@ -19,28 +20,38 @@ use Rattle.sheet.specs.Sheet.{listed, Fault, at, first_failing, among}
 use Rattle.sheet.specs.Turns.{numbered, literals, FirstFailing, same_group, in_room, RunTo}
 use Rattle.sheet.specs.declared.SheetEntry.{SheetEntry}
 
--- ---- the numbers of earlier groups, looked for from i back to j
+-- ---- the numbers of earlier groups
+
+-- a number that an entry before place k has is one that an entry before a later place has
+numbered_kept : (e : ℕ → SheetEntry) (g i k : ℕ) → k ≤ i → numbered e k g ≡ true → numbered e i g ≡ true
+unfolding numbered
+numbered_kept e g zero k h y = let z : k ≡ 0 = omega arith in rw z at y
+numbered_kept e g (suc i) k h y = at_last (ℕ_discrete k (suc i)) (λ l. numbered_kept e g i k l y)
+  where
+    at_last : Dec (k ≡ suc i) → (k ≤ i → numbered e i g ≡ true) → numbered e (suc i) g ≡ true
+    at_last (yes z) earlier = rw z at y
+    at_last (no z) earlier = or_r (eqb (e i).kind 0 && eqb g (e i).group) _ (earlier (omega arith))
 
 module _ (e : ℕ → SheetEntry) (g : ℕ) where
   pub numbered_none : numbered e 0 g ≡ false
   unfolding numbered
   numbered_none = refl
 
-  numbered_back : (j : ℕ) → 0 < j → numbered e j g ≡ ((eqb (e (j - 1)).kind 0 && eqb g (e (j - 1)).group) || numbered e (j - 1) g)
-  unfolding numbered
-  numbered_back zero h = absurd (omega arith)
-  numbered_back (suc k) h = let back : suc k - 1 ≡ k = omega arith in rw back refl
+  -- entry j tested, where none before it has the number
+  module _ {j : ℕ} (so_far : numbered e j g ≡ false) {x : SheetEntry} (is : x ≡ e j) {b : Bool} (test : b ≡ (eqb x.kind 0 && eqb g x.group)) where
+    there : numbered e (j + 1) g ≡ b
+    unfolding numbered
+    there = rw (add-one j, so_far, ← is, ← test) (or_false b)
+      where
+        or_false : (b : Bool) → (b || false) ≡ b
+        or_false true = refl
+        or_false false = refl
 
-  module _ (i : ℕ) {j : ℕ} (so_far : numbered e i g ≡ numbered e j g) (more : 0 < j) {x : SheetEntry} (is : x ≡ e (j - 1)) {b : Bool}
-      (test : b ≡ (eqb x.kind 0 && eqb g x.group)) where
-    back : numbered e i g ≡ (b || numbered e (j - 1) g)
-    back = so_far ∙ numbered_back j more ∙ rw (← is, ← test) refl
+    pub numbered_other : b ≡ false → numbered e (j + 1) g ≡ false
+    numbered_other y = there ∙ y
 
-    pub numbered_found : b ≡ true → true ≡ numbered e i g
-    numbered_found y = sym (back ∙ rw y refl)
-
-    pub numbered_other : b ≡ false → numbered e i g ≡ numbered e (j - 1) g
-    numbered_other y = back ∙ rw y refl
+    pub numbered_found : {i : ℕ} → j < i → b ≡ true → true ≡ numbered e i g
+    numbered_found {i} h y = sym (numbered_kept e g i (j + 1) (omega arith) (there ∙ y))
 
 -- ---- the first entry whose literal fails a test
 
@@ -49,13 +60,10 @@ pub record Passing (f : ℕ → Bool) (e : ℕ → SheetEntry) (i j k : ℕ) : T
   pub to_j : k ≤ j
   pub same : (after : Fault) → first_failing f i (literals e i j) after ≡ first_failing f k (literals e k j) after
 
-pub passing_none : {f : ℕ → Bool} {e : ℕ → SheetEntry} {i j : ℕ} → i ≤ j → Passing f e i j i
-passing_none h = record { to_j = h; same = λ after. refl }
-
 module _ {f : ℕ → Bool} {e : ℕ → SheetEntry} {i j k : ℕ} (p : Passing f e i j k) where
-  pub passing_all : j ≤ k → FirstFailing f e i j j
+  pub passing_all : j ≤ k → FirstFailing f e i j (Ok tt)
   unfolding first_failing
-  passing_all h = record { within = omega arith; found = λ after. p.same after ∙ rw (rows_end (λ x. (e x).literal) k j h, le-ltb j j (omega arith)) refl }
+  passing_all h = record { within = tt; found = λ after. p.same after ∙ rw (rows_end (λ x. (e x).literal) k j h) refl }
 
   module _ (h : k < j) {x : SheetEntry} (is : x ≡ e k) {l : ℕ} (literal_is : l ≡ x.literal) {b : Bool} (test : b ≡ f l) where
     here : (after : Fault) → first_failing f i (literals e i j) after ≡ cond b (first_failing f (k + 1) (literals e (k + 1) j) after) (at k)
@@ -65,8 +73,8 @@ module _ {f : ℕ → Bool} {e : ℕ → SheetEntry} {i j k : ℕ} (p : Passing 
     pub passing_more : b ≡ true → Passing f e i j (k + 1)
     passing_more y = record { to_j = omega arith; same = λ after. here after ∙ rw y refl }
 
-    pub passing_fails : b ≡ false → FirstFailing f e i j k
-    passing_fails y = record { within = omega arith; found = λ after. here after ∙ rw (y, lt-ltb k j h) refl }
+    pub passing_fails : b ≡ false → FirstFailing f e i j (Err k)
+    passing_fails y = record { within = h; found = λ after. here after ∙ rw y refl }
 
 -- ---- the claim among the entries
 
@@ -75,9 +83,6 @@ abbrev pub Unseen : (k A : ℕ) → (ℕ → SheetEntry) → (n j : ℕ) → Typ
 Unseen k A e n j = among k A (rows e 0 n) ≡ among k A (rows e j (n - j))
 
 module _ (k A : ℕ) (e : ℕ → SheetEntry) (n : ℕ) where
-  pub unseen_none : Unseen k A e n 0
-  unseen_none = let all : n - 0 ≡ n = omega arith in rw all refl
-
   module _ {j : ℕ} (u : Unseen k A e n j) where
     pub unseen_all : n ≤ j → false ≡ among k A (rows e 0 n)
     unfolding among
@@ -148,9 +153,6 @@ module _ {e : ℕ → SheetEntry} {i n : ℕ} where
       (test : b ≡ (eqb x.kind 0 && eqb first.group x.group)) where
     same_group_lem : b ≡ same_group e i j
     same_group_lem = test ∙ rw (is, first_is) refl
-
-    pub run_stops : b ≡ false → same_group e i j ≡ false
-    run_stops y = sym same_group_lem ∙ y
 
     pub run_more : j < n → b ≡ true → {l : ℕ} → l ≡ x.literal → {U : Set} → U ≡ with l S → RunTo e i n (j + 1) U
     run_more h y {l} literal_is u =

@@ -8,7 +8,6 @@ use Prim.Native.Nat.{ℕ, zero, suc, ◌+◌, ◌-◌, ◌/◌, ◌%◌, ◌≤�
 use native.Mathlib.Nat.{mod-lt, zero-lt-suc}
 use native.Mathlib.Omega.{arith}
 use lib.Dec.{eqb}
-use lib.ListN.{length}
 use borrow.Author.Tests.{eqb-true, eq-eqb, ne_eqb, lt-ltb, le-ltb}
 use Rattle.truth.proofs.Truth.{decided, same_test}
 use Rattle.wfsx.specs.Sets.{Set, ◌∈◌, ◌∪◌, ◌∖◌}
@@ -18,65 +17,64 @@ use Rattle.wfsx.proofs.Supported.{supported_none, supported_first, supported_sem
 use Rattle.wfsx.proofs.Facts.{supported_facts}
 use Rattle.litset.specs.Words.{capacity, with}
 use Rattle.litset.proofs.Words.{with_room}
-use Rattle.book.specs.Book.{rows, entry_of, head_at, body_of, rule_at, program}
+use Rattle.book.specs.Limits.{max_rules}
+use Rattle.book.specs.Book.{rows, clamp, entry_of, head_at, body_of, rule_at, rules_of, program}
+use Rattle.book.specs.declared.Book.{Book}
 use Rattle.book.proofs.Rows.{rows_step, rows_end}
 use Rattle.book.proofs.Heads.{head_below}
 use Rattle.sheet.specs.Sheet.{shown, rule_numbered, fact_number, names_rule, true_follows}
-use Rattle.sheet.specs.Turns.{all_rules, shows_for, beyond, open_in}
+use Rattle.sheet.specs.Turns.{shows_for, beyond, open_in}
 use Rattle.sheet.specs.declared.SheetEntry.{SheetEntry}
 
 -- ---- a pass over the rules
 
 -- X has the heads of the rules before r that pass the test, besides what it had at first
-pub record Passed (heads starts entries : List ℕ) (f : Entry → Bool) (X₀ X : Set) (r : ℕ) : Type 0 where
-  pub same : (A : ℕ) → (supported (all_rules heads starts entries) f A || X₀ A) ≡ (supported (rows (rule_at heads starts entries) r (length heads - r)) f A || X A)
+pub record Passed (b : Book) (f : Entry → Bool) (X₀ X : Set) (r : ℕ) : Type 0 where
+  pub same : (A : ℕ) → (supported (rules_of b) f A || X₀ A) ≡ (supported (rows (rule_at b.heads b.starts b.entries) r (clamp max_rules b.rules - r)) f A || X A)
 
-module _ {heads starts entries : List ℕ} {f : Entry → Bool} {X₀ : Set} where
-  pub passed_none : Passed heads starts entries f X₀ X₀ 0
-  passed_none = let all : length heads - 0 ≡ length heads = omega arith in record { same = λ A. rw all refl }
+module _ {b : Book} {f : Entry → Bool} {X₀ : Set} where
+  module _ {X : Set} {r : ℕ} (p : Passed b f X₀ X r) where
+    pub passed_all : clamp max_rules b.rules ≤ r → (A : ℕ) → X A ≡ (supported (rules_of b) f A || X₀ A)
+    passed_all h A = sym (p.same A ∙ rw (rows_end (rule_at b.heads b.starts b.entries) r (clamp max_rules b.rules) h, supported_none f A) refl)
 
-  module _ {X : Set} {r : ℕ} (p : Passed heads starts entries f X₀ X r) where
-    pub passed_all : length heads ≤ r → (A : ℕ) → X A ≡ (supported (all_rules heads starts entries) f A || X₀ A)
-    passed_all h A = sym (p.same A ∙ rw (rows_end (rule_at heads starts entries) r (length heads) h, supported_none f A) refl)
-
-    module _ (h : r < length heads) where
+    module _ (h : r < clamp max_rules b.rules) where
       -- what rule r makes of X
-      stepped : {Y : Set} → ((A : ℕ) (s : Bool) → ((eqb (head_at heads r) A && every f (body_of starts entries r) || s) || X A) ≡ (s || Y A))
-          → Passed heads starts entries f X₀ Y (r + 1)
+      stepped : {Y : Set} → ((A : ℕ) (s : Bool) → ((eqb (head_at b.heads r) A && every f (body_of b.starts b.entries r) || s) || X A) ≡ (s || Y A))
+          → Passed b f X₀ Y (r + 1)
       stepped e = record {
-        same = λ A. p.same A ∙ rw (rows_step (rule_at heads starts entries) r (length heads) h, supported_first (rule_at heads starts entries r) _ f A) (e A _);
+        same = λ A. p.same A ∙ rw (rows_step (rule_at b.heads b.starts b.entries) r (clamp max_rules b.rules) h, supported_first (rule_at b.heads b.starts b.entries r) _ f A) (e A _);
       }
 
-      pub passed_fails : every f (body_of starts entries r) ≡ false → Passed heads starts entries f X₀ X (r + 1)
-      passed_fails e = stepped (λ A s. rw e (go (eqb (head_at heads r) A) s (X A)))
+      pub passed_fails : every f (body_of b.starts b.entries r) ≡ false → Passed b f X₀ X (r + 1)
+      passed_fails e = stepped (λ A s. rw e (go (eqb (head_at b.heads r) A) s (X A)))
         where
           go : (a s x : Bool) → ((a && false || s) || x) ≡ (s || x)
           go true s x = refl
           go false s x = refl
 
       -- n is the head of rule r
-      module _ {n : ℕ} (is : n ≡ head_at heads r) where
-        pub passed_there : n ∈ X → Passed heads starts entries f X₀ X (r + 1)
-        passed_there m = stepped (λ A s. go A s (decided (eqb (head_at heads r) A)))
+      module _ {n : ℕ} (is : n ≡ head_at b.heads r) where
+        pub passed_there : n ∈ X → Passed b f X₀ X (r + 1)
+        passed_there m = stepped (λ A s. go A s (decided (eqb (head_at b.heads r) A)))
           where
             twice : (y s : Bool) → ((y || s) || true) ≡ (s || true)
             twice true true = refl
             twice true false = refl
             twice false s = refl
 
-            go : (A : ℕ) (s : Bool) → (eqb (head_at heads r) A ≡ true) ⊎ (eqb (head_at heads r) A ≡ false)
-                → ((eqb (head_at heads r) A && every f (body_of starts entries r) || s) || X A) ≡ (s || X A)
-            go A s (inl e) = rw (e, ap X (sym (is ∙ eqb-true (head_at heads r) A e)) ∙ m) (twice (every f (body_of starts entries r)) s)
+            go : (A : ℕ) (s : Bool) → (eqb (head_at b.heads r) A ≡ true) ⊎ (eqb (head_at b.heads r) A ≡ false)
+                → ((eqb (head_at b.heads r) A && every f (body_of b.starts b.entries r) || s) || X A) ≡ (s || X A)
+            go A s (inl e) = rw (e, ap X (sym (is ∙ eqb-true (head_at b.heads r) A e)) ∙ m) (twice (every f (body_of b.starts b.entries r)) s)
             go A s (inr e) = rw e refl
 
-        pub passed_adds : {Y : Set} → every f (body_of starts entries r) ≡ true → Y ≡ with n X → Passed heads starts entries f X₀ Y (r + 1)
-        passed_adds {Y} e y = stepped (λ A s. rw (e, added A) (go (eqb (head_at heads r) A) (eqb A (head_at heads r)) s (X A) (either_way A)))
+        pub passed_adds : {Y : Set} → every f (body_of b.starts b.entries r) ≡ true → Y ≡ with n X → Passed b f X₀ Y (r + 1)
+        passed_adds {Y} e y = stepped (λ A s. rw (e, added A) (go (eqb (head_at b.heads r) A) (eqb A (head_at b.heads r)) s (X A) (either_way A)))
           where
-            added : (A : ℕ) → Y A ≡ (eqb A (head_at heads r) || X A)
-            added A = ap (λ (S : Set). S A) (y ∙ ap (λ (k : ℕ). with k X) is ∙ with_room (head_at heads r) X (head_below heads r))
+            added : (A : ℕ) → Y A ≡ (eqb A (head_at b.heads r) || X A)
+            added A = ap (λ (S : Set). S A) (y ∙ ap (λ (k : ℕ). with k X) is ∙ with_room (head_at b.heads r) X (head_below b.heads r))
 
-            either_way : (A : ℕ) → eqb (head_at heads r) A ≡ eqb A (head_at heads r)
-            either_way A = same_test (λ q. eq-eqb A (head_at heads r) (sym (eqb-true (head_at heads r) A q))) (λ q. eq-eqb (head_at heads r) A (sym (eqb-true A (head_at heads r) q)))
+            either_way : (A : ℕ) → eqb (head_at b.heads r) A ≡ eqb A (head_at b.heads r)
+            either_way A = same_test (λ q. eq-eqb A (head_at b.heads r) (sym (eqb-true (head_at b.heads r) A q))) (λ q. eq-eqb (head_at b.heads r) A (sym (eqb-true A (head_at b.heads r) q)))
 
             go : (a b s x : Bool) → a ≡ b → ((a && true || s) || x) ≡ (s || (b || x))
             go true b true x e = refl
@@ -112,10 +110,10 @@ module _ (rules : List Rule) (facts : Set) (below : (A : ℕ) → A ∈ facts �
       ∙ ap (λ (b : Bool). not (T (compl A)) && b) (supported_facts rules capacity facts below (holds (beyond D) T) A)
 
 -- what a pass leaves, from the facts and the literals whose complements are in T, without the latter
-module _ {heads starts entries : List ℕ} {facts T : Set} (D : Set) (below : (A : ℕ) → A ∈ facts → A < capacity) {shut X₀ X R : Set} {r : ℕ} where
-  pub passed_open : shut ≡ complements T → X₀ ≡ facts ∪ shut → Passed heads starts entries (λ e. beq (shown D T e) false) X₀ X r → length heads ≤ r
-      → R ≡ X ∖ shut → R ≡ open_in (program (all_rules heads starts entries) facts) T D
-  passed_open c u p h d = d ∙ fun_ext (λ A. rw (passed_all p h A, u, c, not_shown T D) (go (supported (all_rules heads starts entries) (holds (beyond D) T) A) (facts A) (T (compl A)) ∙ sym (open_table (all_rules heads starts entries) facts below T D A)))
+module _ {b : Book} {facts T : Set} (D : Set) (below : (A : ℕ) → A ∈ facts → A < capacity) {shut X₀ X R : Set} {r : ℕ} where
+  pub passed_open : shut ≡ complements T → X₀ ≡ facts ∪ shut → Passed b (λ e. beq (shown D T e) false) X₀ X r → clamp max_rules b.rules ≤ r
+      → R ≡ X ∖ shut → R ≡ open_in (program (rules_of b) facts) T D
+  passed_open c u p h d = d ∙ fun_ext (λ A. rw (passed_all p h A, u, c, not_shown T D) (go (supported (rules_of b) (holds (beyond D) T) A) (facts A) (T (compl A)) ∙ sym (open_table (rules_of b) facts below T D A)))
     where
       go : (s f t : Bool) → ((s || (f || t)) && not t) ≡ (not t && (s || f))
       go true true true = refl
@@ -142,17 +140,17 @@ module _ {D E : Set} (T : Set) (agree : (A : ℕ) → A < capacity → D A ≡ E
   body_agree [] = refl
   body_agree (x ∷ xs) = rw (entry_agree x, body_agree xs) refl
 
-  module _ (heads starts entries : List ℕ) where
-    rules_agree : (A k n : ℕ) → supported (rows (rule_at heads starts entries) k n) (holds (beyond D) T) A ≡ supported (rows (rule_at heads starts entries) k n) (holds (beyond E) T) A
+  module _ (b : Book) where
+    rules_agree : (A k n : ℕ) → supported (rows (rule_at b.heads b.starts b.entries) k n) (holds (beyond D) T) A ≡ supported (rows (rule_at b.heads b.starts b.entries) k n) (holds (beyond E) T) A
     unfolding supported rows
     rules_agree A k zero = refl
     rules_agree A k (suc n) = rw (body_agree _, rules_agree A (suc k) n) refl
 
     pub open_agree : (facts : Set) → ((A : ℕ) → A ∈ facts → A < capacity) → (A : ℕ)
-        → open_in (program (all_rules heads starts entries) facts) T D A ≡ open_in (program (all_rules heads starts entries) facts) T E A
+        → open_in (program (rules_of b) facts) T D A ≡ open_in (program (rules_of b) facts) T E A
     open_agree facts below A =
-        open_table (all_rules heads starts entries) facts below T D A ∙ ap (λ (b : Bool). not (T (compl A)) && (b || facts A)) (rules_agree A 0 (length heads))
-        ∙ sym (open_table (all_rules heads starts entries) facts below T E A)
+        open_table (rules_of b) facts below T D A ∙ ap (λ (s : Bool). not (T (compl A)) && (s || facts A)) (rules_agree A 0 (clamp max_rules b.rules))
+        ∙ sym (open_table (rules_of b) facts below T E A)
 
 -- ---- what a number names
 
@@ -168,22 +166,22 @@ row_past f g k zero i h = refl
 row_past f g k (suc n) zero h = absurd (omega arith)
 row_past f g k (suc n) (suc i) h = row_past f g (suc k) n i (omega arith)
 
-module _ (heads starts entries : List ℕ) (T F : Set) (A k : ℕ) where
-  pub names_past : length heads ≤ k → false ≡ rule_numbered (shows_for T F A) (all_rules heads starts entries) k
-  names_past h = sym (row_past (shows_for T F A) (rule_at heads starts entries) 0 (length heads) k h)
+module _ (b : Book) (T F : Set) (A k : ℕ) where
+  pub names_past : clamp max_rules b.rules ≤ k → false ≡ rule_numbered (shows_for T F A) (rules_of b) k
+  names_past h = sym (row_past (shows_for T F A) (rule_at b.heads b.starts b.entries) 0 (clamp max_rules b.rules) k h)
 
-  module _ (h : k < length heads) {n : ℕ} (is : n ≡ head_at heads k) where
-    named : rule_numbered (shows_for T F A) (all_rules heads starts entries) k ≡ (eqb n A && every (shown T F) (body_of starts entries k))
-    named = row_named (shows_for T F A) (rule_at heads starts entries) 0 (length heads) k h ∙ rw (is, zero_add k) refl
+  module _ (h : k < clamp max_rules b.rules) {n : ℕ} (is : n ≡ head_at b.heads k) where
+    named : rule_numbered (shows_for T F A) (rules_of b) k ≡ (eqb n A && every (shown T F) (body_of b.starts b.entries k))
+    named = row_named (shows_for T F A) (rule_at b.heads b.starts b.entries) 0 (clamp max_rules b.rules) k h ∙ rw (is, zero_add k) refl
       where
         zero_add : (k : ℕ) → 0 + k ≡ k
         zero_add k = omega arith
 
-    pub names_other : (n ≡ A → ⊥) → false ≡ rule_numbered (shows_for T F A) (all_rules heads starts entries) k
+    pub names_other : (n ≡ A → ⊥) → false ≡ rule_numbered (shows_for T F A) (rules_of b) k
     names_other ne = sym (named ∙ rw (ne_eqb n A ne) refl)
 
-    pub names_body : n ≡ A → every (λ (e : Entry). beq (shown T F e) true) (body_of starts entries k) ≡ rule_numbered (shows_for T F A) (all_rules heads starts entries) k
-    names_body e = ap (λ (f : Entry → Bool). every f (body_of starts entries k)) (is_shown T F) ∙ sym (named ∙ rw (eq-eqb n A e) refl)
+    pub names_body : n ≡ A → every (λ (e : Entry). beq (shown T F e) true) (body_of b.starts b.entries k) ≡ rule_numbered (shows_for T F A) (rules_of b) k
+    names_body e = ap (λ (f : Entry → Bool). every f (body_of b.starts b.entries k)) (is_shown T F) ∙ sym (named ∙ rw (eq-eqb n A e) refl)
 
 -- ---- a "true" entry
 

@@ -10,18 +10,20 @@ use native.Mathlib.Numerals.{add-one}
 use native.Mathlib.Omega.{arith}
 use lib.Dec.{eqb, ltb}
 use lib.ListN.{length}
-use borrow.Author.Tests.{eq-eqb, ne_eqb, eqb-true, ltb-true, lt-ltb, le-ltb}
-use Rattle.truth.proofs.Truth.{clash, decided, same_test as same-test', and_l, and_r, and_intro}
+use borrow.Author.Tests.{eq-eqb, ne_eqb, eqb-true, ltb-true, lt-ltb}
+use Rattle.truth.proofs.Truth.{decided, same_test as same-test', and_l, and_r, and_intro}
 use Rattle.wfsx.specs.Sets.{Set, ∅, ◌∈◌, ◌∉◌, ◌∪◌, add}
 use Rattle.wfsx.specs.Program.{Rule}
 use Rattle.litset.specs.Words.{capacity, set_of, with}
 use Rattle.litset.proofs.Words.{with_room}
-use Rattle.book.specs.Book.{rows, program}
+use Rattle.std.specs.Prelude.{Result, Ok, Err}
+use Rattle.book.specs.Book.{rows, rules_of, program}
+use Rattle.book.specs.declared.Book.{Book}
 use Rattle.book.proofs.Rows.{rows_step, rows_end, rows_length}
 use Rattle.sheet.specs.declared.SheetEntry.{SheetEntry}
 use Rattle.sheet.specs.declared.Progress.{Progress}
 use Rattle.sheet.specs.Sheet.{Block, single, group, joined, blocks, listed, Fault, none, at, first_failing, true_follows, false_follows, fault_in, fault}
-use Rattle.sheet.specs.Turns.{all_rules, open_in, numbered, literals, passes, FirstFailing, same_group, RunTo, left_at, left_for, TurnOf, FaultAt}
+use Rattle.sheet.specs.Turns.{open_in, numbered, literals, passes, fault_or, FirstFailing, same_group, RunTo, left_at, left_for, TurnOf, FaultAt}
 use Rattle.sheet.proofs.Open.{not_open}
 use Rattle.sheet.proofs.Sound.{failing_none}
 use Rattle.sheet.proofs.Tables.{open_agree}
@@ -193,55 +195,42 @@ module _ (rules : List Rule) (facts : Set) (known : ℕ) (e : ℕ → SheetEntry
         ∙ ap (λ (m : ℕ). cond (numbered e i g) (at i) (first_failing (false_follows rules facts known T F (listed As)) i As (fault_in rules facts known T (F ∪ listed As) (add g (numbered e i)) m (blocks (rows e j (n - j)))))) size
         ∙ ap (λ (E : Set). cond (numbered e i g) (at i) (first_failing (false_follows rules facts known T F (listed As)) i As (fault_in rules facts known T (F ∪ listed As) E j (blocks (rows e j (n - j)))))) (sym group_ended)
 
--- the same over the tables of a book; O are the literals that have a rule left open, and k the place of the first entry that does not pass
-module _ (heads starts entries : List ℕ) (facts : Set) (below : (A : ℕ) → A ∈ facts → A < capacity) (known : ℕ) (small : known ≤ capacity)
+-- the same over the rules of a book; O are the literals that have a rule left open, and r has the place of the first entry that does not pass
+module _ (b : Book) (facts : Set) (below : (A : ℕ) → A ∈ facts → A < capacity) (known : ℕ) (small : known ≤ capacity)
     (e : ℕ → SheetEntry) (n : ℕ) (T F : Set) (i : ℕ) (here : i < n) (z : (e i).kind ≡ 0) {j : ℕ} {S : Set} (run : RunTo e i n j S)
     (stops : j < n → same_group e i j ≡ false) where
-  abbrev rules : List Rule
-  rules = all_rules heads starts entries
-
   abbrev lefts : (T F : Set) → ℕ → Fault
-  lefts = left_at rules facts known e n
+  lefts = left_at (rules_of b) facts known e n
 
   pub group_ends : (e i).group ∈ numbered e i → lefts T F i ≡ at i
-  group_ends m = group_next rules facts known e n T F i here z run stops ∙ rw m refl
+  group_ends m = group_next (rules_of b) facts known e n T F i here z run stops ∙ rw m refl
 
-  module _ (fresh : (e i).group ∉ numbered e i) {D O : Set} (together : D ≡ F ∪ S) (opens : O ≡ open_in (program rules facts) T D) {k : ℕ}
-      (first : FirstFailing (passes known O) e i j k) where
+  module _ (fresh : (e i).group ∉ numbered e i) {D O : Set} (together : D ≡ F ∪ S) (opens : O ≡ open_in (program (rules_of b) facts) T D) where
     abbrev group_literals : List ℕ
     group_literals = literals e i j
 
-    same_test : false_follows rules facts known T F (listed group_literals) ≡ passes known O
-    same_test = fun_ext (λ A. false_passes rules facts known T F (listed group_literals) A ∙ ap (λ (b : Bool). ltb A known && not b) (open_agree T agree heads starts entries facts below A ∙ sym (ap (λ (U : Set). U A) (opens ∙ ap (open_in (program rules facts) T) together))))
+    same_test : false_follows (rules_of b) facts known T F (listed group_literals) ≡ passes known O
+    same_test = fun_ext (λ A. false_passes (rules_of b) facts known T F (listed group_literals) A ∙ ap (λ (s : Bool). ltb A known && not s) (open_agree T agree b facts below A ∙ sym (ap (λ (U : Set). U A) (opens ∙ ap (open_in (program (rules_of b) facts) T) together))))
       where
         agree : (A : ℕ) → A < capacity → (F ∪ listed group_literals) A ≡ (F ∪ S) A
-        agree A h = ap (λ (b : Bool). F A || b) (sym (ap (λ (U : Set). U A) run.members ∙ rw (lt-ltb A capacity h) refl))
+        agree A h = ap (λ (s : Bool). F A || s) (sym (ap (λ (U : Set). U A) run.members ∙ rw (lt-ltb A capacity h) refl))
 
-    judged : lefts T F i ≡ cond (ltb k j) (at k) (lefts T (F ∪ listed group_literals) j)
-    judged =
-        group_next rules facts known e n T F i here z run stops
+    judged : {r : Result Unit ℕ} → FirstFailing (passes known O) e i j r → lefts T F i ≡ fault_or r (lefts T (F ∪ listed group_literals) j)
+    judged first =
+        group_next (rules_of b) facts known e n T F i here z run stops
         ∙ rw (fresh, same_test) (first.found (lefts T (F ∪ listed group_literals) j))
 
-    pub group_fails : k < j → lefts T F i ≡ at k
-    group_fails h = judged ∙ rw (lt-ltb k j h) refl
+    pub group_fails : {k : ℕ} → FirstFailing (passes known O) e i j (Err k) → lefts T F i ≡ at k
+    group_fails first = judged first
 
-    pub group_goes : j ≤ k → lefts T F i ≡ lefts T D j
-    group_goes h = judged ∙ rw (le-ltb k j h, together, members) refl
+    pub group_goes : {u : Unit} → FirstFailing (passes known O) e i j (Ok u) → lefts T F i ≡ lefts T D j
+    group_goes first = judged first ∙ rw (together, members) refl
       where
         passing : (A : ℕ) → A ∈ listed group_literals → A < known
-        passing A a = ltb-true A known (and_l (ltb A known) _ ((failing_none (passes known O) i group_literals none (first.found none ∙ rw (le-ltb k j h) refl)).0 A a))
+        passing A a = ltb-true A known (and_l (ltb A known) _ ((failing_none (passes known O) i group_literals none (first.found none)).0 A a))
 
         members : S ≡ listed group_literals
         members = run.members ∙ fun_ext (λ A. same-test' (λ a. and_r (ltb A capacity) _ a) (λ a. let l = passing A a in and_intro (ltb A capacity) _ (lt-ltb A capacity (omega arith)) a))
-
--- ---- a turn
-
-module _ {left : (T F : Set) → ℕ → Fault} {n : ℕ} {p r : Progress} where
-  pub turn_halts : r.ok ≡ false → r.next < n → left_for left p ≡ at r.next → TurnOf left n p r
-  turn_halts n h e = record { goes = λ y. absurd (clash y n); halts = λ _. (h, e) }
-
-  pub turn_goes : r.ok ≡ true → p.next < r.next → r.next ≤ n → left_for left p ≡ left_for left r → TurnOf left n p r
-  turn_goes y a h e = record { goes = λ _. (a, h, e); halts = λ n. absurd (clash y n) }
 
 -- ---- the whole sheet
 
@@ -259,13 +248,12 @@ module _ {rules : List Rule} {facts : Set} {known : ℕ} {e : ℕ → SheetEntry
       record { inside = omega arith; same = sym (rw (z, t, f, all, none_yet) refl) }
 
   module _ {p : Progress} (c : ComeTo rules facts known e n p) where
-    pub come_end : n ≤ p.next → FaultAt rules facts known e n n
+    pub come_end : n ≤ p.next → FaultAt rules facts known e n (Ok tt)
     unfolding left_at blocks fault_in
-    come_end h = record { within = omega arith; found = c.same ∙ rw (rows_end e p.next n h, le-ltb n n (omega arith)) refl }
+    come_end h = record { within = tt; found = c.same ∙ rw (rows_end e p.next n h) refl }
 
-    module _ {q : Progress} (t : TurnOf (left_at rules facts known e n) n p q) where
-      pub come_on : q.ok ≡ true → ComeTo rules facts known e n q
-      come_on y = record { inside = (t.goes y).1; same = c.same ∙ (t.goes y).2 }
+    pub come_on : {q : Progress} → TurnOf (left_at rules facts known e n) n p (Ok q) → ComeTo rules facts known e n q
+    come_on t = record { inside = t.1; same = c.same ∙ t.2 }
 
-      pub come_halt : q.ok ≡ false → FaultAt rules facts known e n q.next
-      come_halt y = let h = (t.halts y).0 in record { within = omega arith; found = c.same ∙ (t.halts y).1 ∙ rw (lt-ltb q.next n h) refl }
+    pub come_halt : {k : ℕ} → TurnOf (left_at rules facts known e n) n p (Err k) → FaultAt rules facts known e n (Err k)
+    come_halt t = record { within = t.0; found = c.same ∙ t.1 }

@@ -1,24 +1,22 @@
--- A sheet in a flat table of numbers: entry i has its kind, literal, rule number and group number at the places from 4 i on.
-use Rattle.std.specs.Prelude.{List, [], ◌∷◌, ℕ, ◌+◌, ◌*◌, get_or, replicate}
-use Rattle.std.proofs.lemmas.List.Edits.{sets}
+-- A sheet in a table of entries, of which the first are the sheet's.
+use Rattle.std.specs.Prelude.{List, ℕ, get_or, replicate}
 use Rattle.book.specs.Book.{rows}
 use Rattle.sheet.specs.Sheet.{max_sheet}
 use Rattle.sheet.specs.declared.SheetEntry.{SheetEntry}
 use Rattle.sheet.specs.declared.Sheet.{Sheet}
 
--- entry i of a table
-unfoldable pub entry_in : List ℕ → ℕ → SheetEntry
-entry_in fields i =
-    record { kind = get_or fields (4 * i) 0; literal = get_or fields (4 * i + 1) 0; rule = get_or fields (4 * i + 2) 0; group = get_or fields (4 * i + 3) 0 }
+-- an entry whose numbers are 0
+abbrev pub zeros : SheetEntry
+zeros = record { kind = 0; literal = 0; rule = 0; group = 0 }
+
+-- entry i of a table; past its end the numbers are 0
+abbrev pub entry_in : List SheetEntry → ℕ → SheetEntry
+entry_in table i = get_or table i zeros
 
 -- the first n entries of a table
-abbrev pub entries_in : List ℕ → ℕ → List SheetEntry
-entries_in fields n = rows (entry_in fields) 0 n
-
--- a table with entry i stored
-unfoldable pub with_entry : List ℕ → ℕ → SheetEntry → List ℕ
-with_entry fields i e = sets fields (4 * i) (e.kind ∷ e.literal ∷ e.rule ∷ e.group ∷ [])
+abbrev pub entries_in : List SheetEntry → ℕ → List SheetEntry
+entries_in table n = rows (entry_in table) 0 n
 
 -- a sheet that has no entry yet
 abbrev pub blank : Sheet
-blank = record { fields = replicate (4 * max_sheet) 0 }
+blank = record { entries = replicate max_sheet zeros }

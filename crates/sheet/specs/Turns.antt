@@ -1,20 +1,16 @@
 -- What the functions of the check tell each other. A sheet is given by its entry at each place, e, and their count n.
-use Rattle.std.specs.Prelude.{◌≡◌, Bool, true, false, not, cond, ◌&&◌, ◌||◌, List, ℕ, zero, suc, ◌-◌, ◌≤◌, ◌<◌, eqb, ltb, length}
+use Rattle.std.specs.Prelude.{◌≡◌, Bool, true, false, not, ◌&&◌, ◌||◌, List, ℕ, zero, suc, ◌-◌, ◌≤◌, ◌<◌, eqb, ltb, Result, Ok, Err, IfErr}
 use Rattle.wfsx.specs.Sets.{Set}
 use Rattle.wfsx.specs.Program.{Rule, Program, seminormal}
 use Rattle.wfsx.specs.Model.{holds, every, supported}
 use Rattle.litset.specs.Words.{capacity, set_of}
-use Rattle.book.specs.Book.{rows, rules_in}
+use Rattle.book.specs.Book.{rows}
 use Rattle.sheet.specs.Sheet.{shown, listed, Fault, none, at, first_failing, blocks, fault_in, fault}
 use Rattle.sheet.specs.declared.SheetEntry.{SheetEntry}
 use Rattle.sheet.specs.declared.Group.{Group}
 use Rattle.sheet.specs.declared.Progress.{Progress}
 
 -- ---- rules
-
--- a table with as many rules as heads
-abbrev pub all_rules : (heads starts entries : List ℕ) → List Rule
-all_rules heads starts entries = rules_in heads starts entries (length heads)
 
 -- a rule of A whose body is shown
 abbrev pub shows_for : (T F : Set) → ℕ → Rule → Bool
@@ -43,10 +39,15 @@ literals e i j = rows (λ k. (e k).literal) i (j - i)
 abbrev pub passes : (known : ℕ) → (left_open : Set) → ℕ → Bool
 passes known left_open A = ltb A known && not (left_open A)
 
--- r is the place of the first entry from i to j whose literal fails a test, and j says that none does
-pub record FirstFailing (f : ℕ → Bool) (e : ℕ → SheetEntry) (i j r : ℕ) : Type 0 where
-  pub within : r ≤ j
-  pub found : (after : Fault) → first_failing f i (literals e i j) after ≡ cond (ltb r j) (at r) after
+-- a place that is found is a fault there; where none is, what comes after decides
+abbrev pub fault_or : Result Unit ℕ → Fault → Fault
+fault_or (Ok u) after = after
+fault_or (Err k) after = at k
+
+-- r has the place of the first entry from i to j whose literal fails a test, and is Ok where none does
+pub record FirstFailing (f : ℕ → Bool) (e : ℕ → SheetEntry) (i j : ℕ) (r : Result Unit ℕ) : Type 0 where
+  pub within : IfErr r (λ k. k < j)
+  pub found : (after : Fault) → first_failing f i (literals e i j) after ≡ fault_or r after
 
 -- entry k is a "false" entry under the number of entry i
 abbrev pub same_group : (ℕ → SheetEntry) → ℕ → ℕ → Bool
@@ -80,11 +81,11 @@ abbrev pub left_for : ((T F : Set) → ℕ → Fault) → Progress → Fault
 left_for left p = left (set_of p.truths.words) (set_of p.falses.words) p.next
 
 -- a turn goes on behind the entry or the group that it read, or stops at the first entry that does not follow
-pub record TurnOf (left : (T F : Set) → ℕ → Fault) (n : ℕ) (p r : Progress) : Type 0 where
-  pub goes : r.ok ≡ true → (p.next < r.next) × (r.next ≤ n) × (left_for left p ≡ left_for left r)
-  pub halts : r.ok ≡ false → (r.next < n) × (left_for left p ≡ at r.next)
+abbrev pub TurnOf : (left : (T F : Set) → ℕ → Fault) (n : ℕ) (p : Progress) → Result Progress ℕ → Type 0
+TurnOf left n p (Ok q) = (p.next < q.next) × (q.next ≤ n) × (left_for left p ≡ left_for left q)
+TurnOf left n p (Err k) = (k < n) × (left_for left p ≡ at k)
 
--- r is the place of the first entry that does not follow, and n says that all follow
-pub record FaultAt (rules : List Rule) (facts : Set) (known : ℕ) (e : ℕ → SheetEntry) (n r : ℕ) : Type 0 where
-  pub within : r ≤ n
-  pub found : fault rules facts known (rows e 0 n) ≡ cond (ltb r n) (at r) none
+-- r has the place of the first entry that does not follow, and is Ok where all follow
+pub record FaultAt (rules : List Rule) (facts : Set) (known : ℕ) (e : ℕ → SheetEntry) (n : ℕ) (r : Result Unit ℕ) : Type 0 where
+  pub within : IfErr r (λ k. k < n)
+  pub found : fault rules facts known (rows e 0 n) ≡ fault_or r none
