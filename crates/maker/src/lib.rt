@@ -65,10 +65,10 @@ fn rule_adds(book: &Book, r: usize, known: usize, t: LitSet, f: LitSet) -> bool
     if known <= head {
         return false;
     }
-    if litset::contains(t, head) {
+    if t.contains(head) {
         return false;
     }
-    sheet::body_as(book, r, t, f, true)
+    sheet::body_as(&book.starts, &book.entries, r, t, f, true)
 }
 
 // ---- the parts of a sheet
@@ -80,7 +80,7 @@ impl Draft {
         ensures { MembersPut kind group known (set_of s.words) self.old self.new }
     {
         for l in 0..known {
-            if !litset::contains(s, l) {
+            if !s.contains(l) {
                 continue;
             }
             sheet::put_entry(
@@ -97,7 +97,7 @@ impl Draft {
         requires { self.old.count + length (passed known (set_of self.old.falses.words) 0 (rules_of book.now) (set_of self.old.truths.words)) ≤ length self.old.sheet.entries }
         ensures { PassOf (rules_of book.now) known self.old self.new }
     {
-        for r in 0..book::rule_count(*book) {
+        for r in 0..book.rule_count() {
             if !rule_adds(book, r, known, self.truths, self.falses) {
                 continue;
             }
@@ -109,7 +109,7 @@ impl Draft {
                 group: 0,
             };
             sheet::put_entry(&mut self.sheet.entries, self.count, e);
-            self.truths = litset::insert(self.truths, head);
+            self.truths = self.truths.insert(head);
             self.count += 1;
         }
     }
@@ -133,7 +133,7 @@ impl Draft {
     fn claims(&self, literal: usize, truth: bool) -> bool
         ensures { result ≡ cond truth (set_of self.now.truths.words literal) (set_of self.now.falses.words literal) }
     {
-        litset::contains(if truth { self.truths } else { self.falses }, literal)
+        (if truth { self.truths } else { self.falses }).contains(literal)
     }
 }
 
@@ -144,23 +144,23 @@ impl Draft {
 pub fn make(book: &Book, facts: LitSet, literal: usize, truth: bool) -> Option<Made>
     ensures { MadeFor (rules_of book.now) (set_of facts.words) (2 * length (names_of book.now)) truth literal result }
 {
-    let known = 2 * book::name_count(*book);
-    let all = litset::from(0);
-    let unknown = litset::from(known);
+    let known = 2 * book.name_count();
+    let all = LitSet::from(0);
+    let unknown = LitSet::from(known);
     let mut d = Draft {
         sheet: sheet::blank(),
         count: 0,
-        truths: litset::difference(facts, unknown),
-        falses: litset::empty(),
+        truths: facts.difference(unknown),
+        falses: LitSet::empty(),
     };
     d.put_members(facts, known, 1, 0);
     // How many rounds there are shows only at the end, so this is no `for`.
     loop {
-        let derived = fixpoint::gamma_s(*book, litset::union(facts, unknown), d.truths);
-        let group = litset::difference(litset::difference(all, derived), d.falses);
+        let derived = fixpoint::gamma_s(book, facts.union(unknown), d.truths);
+        let group = all.difference(derived).difference(d.falses);
         let number = d.count as u16;
         d.put_members(group, known, 0, number);
-        d.falses = litset::union(d.falses, group);
+        d.falses = d.falses.union(group);
         let grouped = d.count;
         d.put_truths(book, known);
         if d.claims(literal, truth) {

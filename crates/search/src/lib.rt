@@ -252,7 +252,7 @@ impl<'a> Walk<'a> {
             Mark::Proved => return Finding::Fails,
             _ => return Finding::Holds,
         }
-        if self.is_head(litset::contains(self.facts, b), b) {
+        if self.is_head(self.facts.contains(b), b) {
             return Finding::Waits(b);
         }
         Finding::Holds
@@ -272,7 +272,7 @@ impl<'a> Walk<'a> {
             Mark::Proved => return true,
             _ => return false,
         }
-        if litset::contains(self.facts, a) {
+        if self.facts.contains(a) {
             s.t[a] = Mark::Proved;
             return true;
         }
@@ -325,7 +325,7 @@ impl<'a> Walk<'a> {
             Mark::Held => return Finding::Holds,
             _ => return Finding::Fails,
         }
-        let fact = litset::contains(self.facts, a);
+        let fact = self.facts.contains(a);
         if !self.is_head(fact, a) {
             return Finding::Fails;
         }

@@ -102,20 +102,27 @@ fn entry_as(e: Entry, d: LitSet, s: LitSet, want: bool) -> bool
     ensures { result ≡ beq (shown (set_of d.words) (set_of s.words) (entry_is e)) want }
 {
     match e {
-        Entry::Positive(b) => litset::contains(d, b) == want,
-        Entry::Default(c) => litset::contains(s, c) == want,
+        Entry::Positive(b) => d.contains(b) == want,
+        Entry::Default(c) => s.contains(c) == want,
     }
 }
 
 // Whether it is for every entry of the body of rule r. A body is shown where all answers are yes, and a rule left open where all are no.
 #[tactic(auto, using(book::proofs::Bodies::body_more, book::proofs::Bodies::body_fails, book::proofs::Bodies::body_over))]
-pub fn body_as(book: &Book, r: usize, d: LitSet, s: LitSet, want: bool) -> bool
+pub fn body_as<'a>(
+    starts: &'a [u16],
+    entries: &'a [u16],
+    r: usize,
+    d: LitSet,
+    s: LitSet,
+    want: bool,
+) -> bool
     ensures { result
-        ≡ every (λ e. beq (shown (set_of d.words) (set_of s.words) e) want) (body_of book.now.starts book.now.entries r) }
+        ≡ every (λ e. beq (shown (set_of d.words) (set_of s.words) e) want) (body_of starts.now entries.now r) }
 {
-    let end = book::body_end(&book.starts, &book.entries, r);
-    for j in book::body_start(&book.starts, r)..end {
-        if !entry_as(book::entry_at(&book.entries, j), d, s, want) {
+    let end = book::body_end(starts, entries, r);
+    for j in book::body_start(starts, r)..end {
+        if !entry_as(book::entry_at(entries, j), d, s, want) {
             return false;
         }
     }
@@ -128,14 +135,14 @@ fn rule_shown(book: &Book, t: LitSet, f: LitSet, literal: usize, number: usize) 
     ensures { result
         ≡ rule_numbered (shows_for (set_of t.words) (set_of f.words) literal) (rules_of book.now) number }
 {
-    let count = book::rule_count(*book);
+    let count = book.rule_count();
     if count <= number {
         return false;
     }
     if book::head_at(&book.heads, number) != literal {
         return false;
     }
-    body_as(book, number, t, f, true)
+    body_as(&book.starts, &book.entries, number, t, f, true)
 }
 
 // How far the check has come: the entry that is next, and the literals of the entries before it.
@@ -187,16 +194,18 @@ impl<'a> Check<'a> {
         ensures { set_of result.words
             ≡ open_in (program (rules_of self.now.book.now) (set_of self.now.facts.words)) (set_of t.words) (set_of d.words) }
     {
-        let shut = litset::complements(t);
-        let mut done = litset::union(self.facts, shut);
-        for r in 0..book::rule_count(*self.book) {
+        let shut = t.complements();
+        let mut done = self.facts.union(shut);
+        for r in 0..self.book.rule_count() {
             let head = book::head_at(&self.book.heads, r);
-            if litset::contains(done, head) || !body_as(self.book, r, d, t, false) {
+            if done.contains(head)
+                || !body_as(&self.book.starts, &self.book.entries, r, d, t, false)
+            {
                 continue;
             }
-            done = litset::insert(done, head);
+            done = done.insert(head);
         }
-        litset::difference(done, shut)
+        done.difference(shut)
     }
 
     // Whether a "true" entry follows; an entry of another kind does not.
@@ -216,7 +225,7 @@ impl<'a> Check<'a> {
         if rule_shown(self.book, p.truths, p.falses, literal, number) {
             return true;
         }
-        number == FACTS + literal && litset::contains(self.facts, literal)
+        number == FACTS + literal && self.facts.contains(literal)
     }
 
     // Whether a "false" entry before place i has the number.
@@ -239,7 +248,7 @@ impl<'a> Check<'a> {
     {
         let first = entry_at(self.entries, i);
         let number = first.group;
-        let mut members = litset::insert(litset::empty(), usize::from(first.literal));
+        let mut members = LitSet::empty().insert(usize::from(first.literal));
         for j in i + 1..self.entries.len() {
             let e = entry_at(self.entries, j);
             if !is_false_of(e, number) {
@@ -249,7 +258,7 @@ impl<'a> Check<'a> {
                     members,
                 };
             }
-            members = litset::insert(members, usize::from(e.literal));
+            members = members.insert(usize::from(e.literal));
         }
         Group {
             number,
@@ -262,7 +271,7 @@ impl<'a> Check<'a> {
     fn passes(&self, opened: LitSet, literal: usize) -> bool
         ensures { result ≡ passes self.now.known (set_of opened.words) literal }
     {
-        literal < self.known && !litset::contains(opened, literal)
+        literal < self.known && !opened.contains(literal)
     }
 
     // Whether the literals of the entries from place i to place j pass; the place of the first that doesn't.
@@ -289,7 +298,7 @@ impl<'a> Check<'a> {
         if self.is_ended(p.next, group.number) {
             return Err(p.next);
         }
-        let falses = litset::union(p.falses, group.members);
+        let falses = p.falses.union(group.members);
         let opened = self.left_open(p.truths, falses);
         self.all_pass(opened, p.next, group.end)?;
         Ok(Progress {
@@ -312,7 +321,7 @@ impl<'a> Check<'a> {
         if !self.true_follows(p, e) {
             return Err(p.next);
         }
-        let truths = litset::insert(p.truths, usize::from(e.literal));
+        let truths = p.truths.insert(usize::from(e.literal));
         Ok(Progress {
             next: p.next + 1,
             truths,
@@ -327,8 +336,8 @@ impl<'a> Check<'a> {
     {
         let mut p = Progress {
             next: 0,
-            truths: litset::empty(),
-            falses: litset::empty(),
+            truths: LitSet::empty(),
+            falses: LitSet::empty(),
         };
         while p.next < self.entries.len() {
             p = self.turn(p)?;
@@ -373,7 +382,7 @@ pub fn judge(
     let check = Check {
         book,
         facts,
-        known: 2 * book::name_count(*book),
+        known: 2 * book.name_count(),
         entries: &sheet.entries[..n],
     };
     if let Err(place) = check.all_follow() {

@@ -6,4 +6,4 @@ use Rattle.sheet.specs.Sheet.{shown}
 use Rattle.sheet.proofs.body_as.Given as goal
 
 abbrev pub invariant-loop-j : goal.invariant-loop-j
-invariant-loop-j l = BodyLeft (λ e. beq (shown (set_of l.d.words) (set_of l.s.words) e) l.want) l.book.starts l.book.entries l.r l.j
+invariant-loop-j l = BodyLeft (λ e. beq (shown (set_of l.d.words) (set_of l.s.words) e) l.want) l.starts l.entries l.r l.j
