@@ -182,17 +182,10 @@ fn literal_of(change: Change) -> usize
 fn check_fits(change: Change, now_in: bool) -> Result<(), Refusal>
     ensures { told_done result ≡ change_fits change now_in }
 {
-    match change {
-        Change::PutIn(_) => if now_in {
-            Err(Refusal::AlreadyPutIn)
-        } else {
-            Ok(())
-        },
-        Change::TakeOut(_) => if now_in {
-            Ok(())
-        } else {
-            Err(Refusal::NotPutIn)
-        },
+    match (change, now_in) {
+        (Change::PutIn(_), true) => Err(Refusal::AlreadyPutIn),
+        (Change::TakeOut(_), false) => Err(Refusal::NotPutIn),
+        _ => Ok(()),
     }
 }
 
