@@ -37,10 +37,6 @@ module _ {X : Type 0} (b : BookState) (said : Said X) where
   loaded_says e = rw e refl
 
 module _ {X : Type 0} (b : BookState) (A : ℕ) (said : Said X) where
-  pub none_loaded_lem : none_loaded b ≡ true → in_order b A said ≡ refused 20
-  unfolding in_order
-  none_loaded_lem e = unloaded_says b _ e
-
   pub outside : none_loaded b ≡ false → in_book b A ≡ false → in_order b A said ≡ refused 21
   unfolding in_order
   outside e i = loaded_says b _ e ∙ rw i refl
