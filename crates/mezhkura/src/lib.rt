@@ -401,9 +401,9 @@ pub extern "C" fn mezhkura_check_sheet(
 {
     let n = entries.len().min(sheet::MAX_SHEET);
     let mut sheet = sheet::blank();
-    for i in 0..n {
+    for (i, entry) in entries[..n].iter().enumerate() {
         // The table is lent: a sheet by value would be copied in each turn.
-        sheet::put_entry(&mut sheet.fields, i, entries[i]);
+        sheet::put_entry(&mut sheet.fields, i, *entry);
     }
     check_reply(lesson::check_sheet(
         &desk.shelf,
@@ -428,9 +428,9 @@ pub extern "C" fn mezhkura_make_sheet(
     let room = entries.len();
     match lesson::make_sheet(&desk.shelf, &desk.lesson, literal, truth != 0, room) {
         Ok(made) => {
-            for i in 0..made.count {
+            for (i, entry) in entries[..made.count].iter_mut().enumerate() {
                 // The table is lent here too.
-                entries[i] = sheet::entry_at(&made.sheet.fields, i);
+                *entry = sheet::entry_at(&made.sheet.fields, i);
             }
             MakeReply {
                 number: 0,
