@@ -183,9 +183,9 @@ pub extern "C" fn mezhkura_load(desk: Desk, file: &[u8]) -> LoadReply
 fn changed(desk: Desk, change: Change) -> ChangeReply
     ensures { ChangeIn desk.shelf (Changes desk.shelf desk.lesson change) result }
 {
-    // The desk that is returned is made before the call: made behind it, it is copied once more.
+    // The desk that is returned is made before the call, and its own shelf is read: otherwise the desk is copied once more.
     let mut after = desk;
-    let answer = lesson::change_facts(&desk.shelf, &mut after.lesson, change);
+    let answer = lesson::change_facts(&after.shelf, &mut after.lesson, change);
     ChangeReply {
         number: number_in(&answer),
         desk: after,
@@ -347,8 +347,8 @@ pub extern "C" fn mezhkura_listing(desk: Desk, buffer: &mut [u8]) -> ListingRepl
 
 // ---- preview
 
-fn previewed(desk: Desk, change: Change, buffer: &mut [u8]) -> ListingReply
-    ensures { ListingIn (λ a. Previews desk.shelf desk.lesson change buffer.old a buffer.new) result }
+fn previewed(desk: &Desk, change: Change, buffer: &mut [u8]) -> ListingReply
+    ensures { ListingIn (λ a. Previews desk.now.shelf desk.now.lesson change buffer.old a buffer.new) result }
 {
     listing_reply(lesson::preview(&desk.shelf, &desk.lesson, change, buffer))
 }
@@ -361,7 +361,7 @@ pub extern "C" fn mezhkura_preview_put_in(
 ) -> ListingReply
     ensures { ListingIn (λ a. Previews desk.shelf desk.lesson (PutIn literal) buffer.old a buffer.new) result }
 {
-    previewed(desk, Change::PutIn(literal), buffer)
+    previewed(&desk, Change::PutIn(literal), buffer)
 }
 
 #[unsafe(no_mangle)]
@@ -372,7 +372,7 @@ pub extern "C" fn mezhkura_preview_take_out(
 ) -> ListingReply
     ensures { ListingIn (λ a. Previews desk.shelf desk.lesson (TakeOut literal) buffer.old a buffer.new) result }
 {
-    previewed(desk, Change::TakeOut(literal), buffer)
+    previewed(&desk, Change::TakeOut(literal), buffer)
 }
 
 // ---- proof sheets: the entries of a lent run are copied into a sheet's table and back, one by one
