@@ -13,11 +13,14 @@ use Rattle.wfsx.specs.ContradictoryNames.{ContradictoryName}
 use Rattle.wfsx.specs.AnswerSets.{AnswerSet, Accords}
 use Rattle.wfsx.proofs.AnswerSets.{M⊆answer_set, answer_set⊆N, answer_set_consistent, verdict_accords}
 use Rattle.reader.specs.Conditions.{First}
-use Rattle.lesson.specs.State.{State, in_book, program_in, ContradictoryOver, gives}
-use Rattle.lesson.specs.Calls.{shelf_of, truths_of, nonfalse_of, contradictory_of, verdict_said, GivesVerdict, GivesModel}
+use Rattle.std.specs.Prelude.{Result}
+use Rattle.fixpoint.specs.Result.{verdict_is}
+use Rattle.fixpoint.specs.declared.Verdict.{Verdict}
+use Rattle.lesson.specs.State.{State, in_book, program_in, ContradictoryOver, gives, told_by}
+use Rattle.lesson.specs.Calls.{shelf_of, truths_of, nonfalse_of, contradictory_of, GivesVerdict, GivesModel}
 use Rattle.lesson.specs.Conditions.{NoBook, verdict_rows}
-use Rattle.lesson.specs.declared.VerdictAnswer.{VerdictAnswer}
-use Rattle.lesson.specs.declared.ModelReply.{ModelReply}
+use Rattle.lesson.specs.declared.Refusal.{Refusal}
+use Rattle.lesson.specs.declared.WholeModel.{WholeModel}
 use Rattle.lesson.proofs.Order.{given_same}
 use Rattle.lesson.proofs.WithBook.{verdict_given}
 use Rattle.lesson.proofs.Sound.{heads_in_book}
@@ -49,21 +52,23 @@ module _ (cs : List Call) (S : Set) (a : AnswerSet (program_in (left cs)) S) whe
   not_first A (inr past-20) = ⊎_elim (λ by-21. let e = by-21.0 in omega arith) (λ past-21. ⊎_elim (λ by-24. no_name (name_of A) by-24.1) (λ past-24. past-24.1) past-21.1) past-20.1
 
   module _ (start k : Desk) (f : Fresh start) (run : Run start cs k) where
-    pub accord_due : (A : ℕ) (r : VerdictAnswer) → GivesVerdict k.shelf k.lesson A r → AccordDue P A (verdict_said r)
+    pub accord_due : (A : ℕ) (r : Result Verdict Refusal) → GivesVerdict k.shelf k.lesson A r → AccordDue P A (told_by verdict_is r)
     accord_due A r h =
         record { not_24 = λ e. not_first A (((demand1 cs start k f run (verdict A) r h).exactly 24 0).0 e); accords = accords }
       where
-        accords : (v : wfsx.Verdict) → verdict_said r ≡ gives v → Accords P A v
+        accords : (v : wfsx.Verdict) → told_by verdict_is r ≡ gives v → Accords P A v
         accords v e =
             let given = verdict_given (shelf_of k.shelf) (truths_of k.lesson) (nonfalse_of k.lesson) (contradictory_of k.lesson) A v (sym h.says ∙ e) in
             let i = rw (ap (λ (d : State). d.book) (left_means cs start k f run)) at given in
             let read = (demand2 cs start k f run A i r h).read (no_name (name_of A)) in
             rw (given_same v (wfsx.verdict P A) (sym e ∙ read)) (verdict_accords P A)
 
-    pub between_due : (NoBook (left cs) → ⊥) → (r : ModelReply) → GivesModel k.shelf k.lesson r → BetweenDue P r
+    pub between_due : (NoBook (left cs) → ⊥) → (r : Result WholeModel Refusal) → GivesModel k.shelf k.lesson r → BetweenDue P r
     between_due some r h =
         let due = model_due cs start k f run some r h in
         record {
           consistent = due.consistency.consistent.1 never_contradictory;
+          given = due.given;
+          is_given = due.is_given;
           between = λ U u. (rw due.model_is.truths (M⊆answer_set P U u), rw due.model_is.nonfalse (answer_set⊆N P U u));
         }

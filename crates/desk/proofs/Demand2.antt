@@ -13,9 +13,12 @@ use Rattle.wfsx.specs.ContradictoryNames.{ContradictoryName, contradictory_names
 use Rattle.wfsx.proofs.Contradiction.{contradiction, least_partial_stable, partial_stable_above, verdict_value_lem}
 use Rattle.wfsx.proofs.ContradictoryNames.{contradictory_is, reached_contradiction, reached_stable, reached_value, some_contradictory}
 use Rattle.fixpoint.proofs.Published.{verdict_same}
-use Rattle.lesson.specs.State.{State, in_book, program_in, ContradictoryOver, Said, gives, refused, verdict_says}
-use Rattle.lesson.specs.Calls.{truths_of, nonfalse_of, contradictory_of, verdict_said, GivesVerdict}
-use Rattle.lesson.specs.declared.VerdictAnswer.{VerdictAnswer}
+use Rattle.std.specs.Prelude.{Result}
+use Rattle.fixpoint.specs.Result.{verdict_is}
+use Rattle.fixpoint.specs.declared.Verdict.{Verdict}
+use Rattle.lesson.specs.State.{State, in_book, program_in, ContradictoryOver, Said, gives, refused, told_by, verdict_says}
+use Rattle.lesson.specs.Calls.{truths_of, nonfalse_of, contradictory_of, GivesVerdict}
+use Rattle.lesson.specs.declared.Refusal.{Refusal}
 use Rattle.lesson.proofs.Order.{given_refused}
 use Rattle.lesson.proofs.WithBook.{verdict_inside}
 use Rattle.lesson.proofs.Marks.{contradictory_at}
@@ -80,9 +83,9 @@ module _ (d : State) (s : Sound d) (A : ℕ) (i : A ∈ in_book d.book) where
             whole = λ some. (wfsx.verdict P A, refl, whole_verdict some);
           }
 
-module _ (cs : List Call) (start k : Desk) (f : Fresh start) (run : Run start cs k) (A : ℕ) (i : A ∈ in_book (left cs).book) (r : VerdictAnswer)
+module _ (cs : List Call) (start k : Desk) (f : Fresh start) (run : Run start cs k) (A : ℕ) (i : A ∈ in_book (left cs).book) (r : Result Verdict Refusal)
     (h : GivesVerdict k.shelf k.lesson A r) where
-  pub verdict_said_lem : verdict_said r ≡ due_of (program_in (left cs)) A
+  pub verdict_said_lem : told_by verdict_is r ≡ due_of (program_in (left cs)) A
   verdict_said_lem =
       let P = program_in (left cs) in
       let b = (left cs).book in
@@ -94,5 +97,5 @@ module _ (cs : List Call) (start k : Desk) (f : Fresh start) (run : Run start cs
       h.says ∙ ap (λ (d : State). verdict_says d.book T U C A) (left_means cs start k f run) ∙ verdict_inside b T U C A i
       ∙ rw (there, verdict_same P T U marks.model_is.truths marks.model_is.nonfalse A) refl
 
-  pub demand2 : VerdictDue (left cs) A (verdict_said r)
+  pub demand2 : VerdictDue (left cs) A (told_by verdict_is r)
   demand2 = rw verdict_said_lem (verdict_due (left cs) (left_sound cs) A i)

@@ -11,9 +11,10 @@ use Rattle.wfsx.specs.Program.{Program}
 use Rattle.wfsx.specs.Trees.{Tree, T, TU, answer}
 use Rattle.wfsx.proofs.Agreement.{agreement}
 use Rattle.search.specs.Questions.{question_of}
-use Rattle.lesson.specs.State.{State, in_book, program_in, gives, Said, search_says}
-use Rattle.lesson.specs.Calls.{search_said, Searches}
-use Rattle.lesson.specs.declared.SearchAnswer.{SearchAnswer}
+use Rattle.std.specs.Prelude.{Result}
+use Rattle.lesson.specs.State.{told, State, in_book, program_in, gives, Said, search_says}
+use Rattle.lesson.specs.Calls.{Searches}
+use Rattle.lesson.specs.declared.Refusal.{Refusal}
 use Rattle.lesson.proofs.Order.{given_same}
 use Rattle.lesson.proofs.WithBook.{search_inside}
 use Rattle.desk.specs.Calls.{Fresh}
@@ -40,10 +41,10 @@ answer_due P TU false A = same_true (agreement P A).1
 answer_due P T true A = not_same (agreement P A).2
 answer_due P TU true A = not_same (agreement P A).3
 
-pub demand3 : (cs : List Call) (start k : Desk) → Fresh start → Run start cs k → (A : ℕ) → A ∈ in_book (left cs).book → (default : Bool) (t : Tree) (r : SearchAnswer)
-    → Searches k.shelf k.lesson A t (question_of A default) r → Due (program_in (left cs)) t default A (search_said r)
+pub demand3 : (cs : List Call) (start k : Desk) → Fresh start → Run start cs k → (A : ℕ) → A ∈ in_book (left cs).book → (default : Bool) (t : Tree) (r : Result Bool Refusal)
+    → Searches k.shelf k.lesson A t (question_of A default) r → Due (program_in (left cs)) t default A (told r)
 demand3 cs start k f run A i default t r h =
     let d = left cs in
-    let said : search_said r ≡ gives (answer (program_in d) t (question_of A default)) =
+    let said : told r ≡ gives (answer (program_in d) t (question_of A default)) =
     h.says ∙ ap (λ (e : State). search_says e A t (question_of A default)) (left_means cs start k f run) ∙ search_inside d A t (question_of A default) i in
-    due_by (program_in d) t default A (search_said r) _ said (answer_due (program_in d) t default A)
+    due_by (program_in d) t default A (told r) _ said (answer_due (program_in d) t default A)

@@ -28,15 +28,15 @@ use Rattle.desk.proofs.Laws.{Good, DeskLaws}
 pub change_laws : (c : Change) → DeskLaws (spec_of (change c))
 change_laws c =
     record {
-      means = λ k r g h. change_means k.shelf k.lesson c r h;
+      means = λ k r g h. change_means k.shelf k.lesson c r.0 r.1 h;
       good = λ k r g h.
           record {
-            sound = rw (change_means k.shelf k.lesson c r h) (sound_change c (state_of k) g.sound);
-            stands = change_stands k.shelf k.lesson g.stands c r h;
+            sound = rw (change_means k.shelf k.lesson c r.0 r.1 h) (sound_change c (state_of k) g.sound);
+            stands = change_stands k.shelf k.lesson g.stands c r.0 r.1 h;
           };
       exactly = λ k r g h number line. rw h.says (change_by (state_of k) c number);
-      kept = λ k r h number line e. (ap (λ (l : Lesson). record { shelf = k.shelf; lesson = l }) (change_kept k.shelf k.lesson c r h number e), record {});
-      replies = λ k g. change_exists k.shelf k.lesson c g.sound;
+      kept = λ k r h number line e. (ap (λ (l : Lesson). record { shelf = k.shelf; lesson = l }) (change_kept k.shelf k.lesson c r.0 r.1 h number e), record {});
+      replies = λ k g. let w = change_exists k.shelf k.lesson c g.sound in ((w.0, w.1), w.2);
     }
 
 -- ---- the calls that read

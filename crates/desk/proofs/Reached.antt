@@ -17,9 +17,12 @@ use Rattle.wfsx.proofs.Reach.{reach_is, reach_itself}
 use Rattle.wfsx.proofs.Relevance.{Has, verdict_unaltered}
 use Rattle.wfsx.proofs.ContradictoryNames.{contradictory_unaltered}
 use Rattle.lister.specs.Listing.{contradictory_word, verdict_word, words_of, verdict_fields}
-use Rattle.lesson.specs.State.{BookState, unloaded, loaded_with, State, its_rules, in_book, program_in, listing_in, gives, refused}
-use Rattle.lesson.specs.Calls.{verdict_said, GivesVerdict}
-use Rattle.lesson.specs.declared.VerdictAnswer.{VerdictAnswer}
+use Rattle.std.specs.Prelude.{Result}
+use Rattle.fixpoint.specs.Result.{verdict_is}
+use Rattle.fixpoint.specs.declared.Verdict.{Verdict}
+use Rattle.lesson.specs.State.{told_by, BookState, unloaded, loaded_with, State, its_rules, in_book, program_in, listing_in, gives, refused}
+use Rattle.lesson.specs.Calls.{GivesVerdict}
+use Rattle.lesson.specs.declared.Refusal.{Refusal}
 use Rattle.lesson.proofs.Order.{name_inside}
 use Rattle.lesson.proofs.Meaning.{reach_of_program, rule_carried}
 use Rattle.desk.specs.Calls.{Fresh}
@@ -49,7 +52,7 @@ module _ (d e : State) (n : ℕ) (same : SameFor n d e) where
 -- two lists whose books have the same rules, and which leave the same facts, for the names that a literal's name reaches have the same said of it
 pub unreached_unaltered : (cs ds : List Call) (start k begin m : Desk) → Fresh start → Run start cs k → Fresh begin → Run begin ds m
     → (A : ℕ) → A ∈ in_book (left cs).book → A ∈ in_book (left ds).book → SameFor (name_of A) (left cs) (left ds)
-    → (r q : VerdictAnswer) → GivesVerdict k.shelf k.lesson A r → GivesVerdict m.shelf m.lesson A q → verdict_said r ≡ verdict_said q
+    → (r q : Result Verdict Refusal) → GivesVerdict k.shelf k.lesson A r → GivesVerdict m.shelf m.lesson A q → told_by verdict_is r ≡ told_by verdict_is q
 unreached_unaltered cs ds start k begin m f run g ran A i j same r q h l =
     verdict_said_lem cs start k f run A i r h ∙ due_same (left cs) (left ds) (name_of A) same A refl ∙ sym (verdict_said_lem ds begin m g ran A j q l)
 
@@ -73,10 +76,10 @@ field_of w number name A = go (of_name A)
 
 -- field 2 or 3 of a name's line has the word of what the verdict call says of the name or of its explicit negation
 pub mark_listed : (cs : List Call) (start k : Desk) → Fresh start → Run start cs k → (A : ℕ) → A ∈ in_book (left cs).book
-    → (r : VerdictAnswer) → GivesVerdict k.shelf k.lesson A r → field_at (listing_in (left cs)) (name_of A + 1) (2 + A % 2) ≡ shown (verdict_said r)
+    → (r : Result Verdict Refusal) → GivesVerdict k.shelf k.lesson A r → field_at (listing_in (left cs)) (name_of A + 1) (2 + A % 2) ≡ shown (told_by verdict_is r)
 mark_listed cs start k f run A i r h = go (left cs).book refl
   where
-    go : (b : BookState) → (left cs).book ≡ b → field_at (listing_in (left cs)) (name_of A + 1) (2 + A % 2) ≡ shown (verdict_said r)
+    go : (b : BookState) → (left cs).book ≡ b → field_at (listing_in (left cs)) (name_of A + 1) (2 + A % 2) ≡ shown (told_by verdict_is r)
     go unloaded e = let h = name_inside unloaded A (rw e at i) in absurd (omega arith)
     go (loaded_with names rules) e =
         ap (λ (fs : List (List ℕ)). get_or fs (2 + A % 2) []) (line_listed cs names rules e (name_of A) (name_inside (loaded_with names rules) A (rw e at i)))

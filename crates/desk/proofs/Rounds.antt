@@ -7,7 +7,9 @@ use Rattle.lister.specs.Listing.{digits}
 use Rattle.lesson.specs.State.{BookState, unloaded, loaded_with, State, program_in, listing_in}
 use Rattle.lesson.specs.Calls.{GivesModel}
 use Rattle.lesson.specs.Conditions.{NoBook}
-use Rattle.lesson.specs.declared.ModelReply.{ModelReply}
+use Rattle.std.specs.Prelude.{Result, Ok}
+use Rattle.lesson.specs.declared.Refusal.{Refusal}
+use Rattle.lesson.specs.declared.WholeModel.{WholeModel}
 use Rattle.lesson.proofs.Sound.{rounds_in_heads, rounds_in_book, rounds_in_names}
 use Rattle.desk.specs.Calls.{Fresh}
 use Rattle.desk.specs.Runs.{Call, left, Run}
@@ -30,14 +32,18 @@ listed cs some = go (left cs).book refl
     go (loaded_with names rules) e = rounds_listed cs names rules e
 
 pub rounds_due : (cs : List Call) (start k : Desk) → Fresh start → Run start cs k → (NoBook (left cs) → ⊥)
-    → (r : ModelReply) → GivesModel k.shelf k.lesson r → RoundsDue (left cs) r.model.rounds
+    → (r : Result WholeModel Refusal) → GivesModel k.shelf k.lesson r → (m : WholeModel) × (r ≡ Ok m) × RoundsDue (left cs) m.model.rounds
 rounds_due cs start k f run some r h =
     let P = program_in (left cs) in
-    rw (model_due cs start k f run some r h).model_is.rounds
-    (record {
-      least = rounds_are P;
-      by_heads = rounds_in_heads (left cs) (left_sound cs);
-      by_literals = rounds_in_book (left cs) (left_sound cs);
-      by_names = rounds_in_names (left cs) (left_sound cs);
-      listed = listed cs some;
-    })
+    let due = model_due cs start k f run some r h in (
+      due.given,
+      due.is_given,
+      rw due.model_is.rounds
+          (record {
+            least = rounds_are P;
+            by_heads = rounds_in_heads (left cs) (left_sound cs);
+            by_literals = rounds_in_book (left cs) (left_sound cs);
+            by_names = rounds_in_names (left cs) (left_sound cs);
+            listed = listed cs some;
+          }),
+    )

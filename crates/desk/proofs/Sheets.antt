@@ -10,12 +10,13 @@ use lib.ListN.{length, take, drop}
 use Rattle.wfsx.specs.Sets.{◌∈◌}
 use Rattle.sheet.specs.Sheet.{accepted, IsSo}
 use Rattle.sheet.specs.declared.SheetEntry.{SheetEntry}
-use Rattle.sheet.specs.declared.Judgement.{Judgement}
+use Rattle.maker.specs.declared.Made.{Made}
 use Rattle.reader.specs.Conditions.{First}
+use Rattle.std.specs.Prelude.{Result}
 use Rattle.lesson.specs.State.{State, program_in, none_loaded, in_book, Said, gives, refused, known_in, check_says}
-use Rattle.lesson.specs.Calls.{Checks, make_said, Makes}
+use Rattle.lesson.specs.Calls.{Checks, make_told, Makes}
 use Rattle.lesson.specs.Conditions.{make_rows}
-use Rattle.lesson.specs.declared.MakeAnswer.{MakeAnswer}
+use Rattle.lesson.specs.declared.Refusal.{Refusal}
 use Rattle.lesson.proofs.Order.{some_book, literal_below}
 use Rattle.lesson.proofs.Sound.{book_in_room}
 use Rattle.lesson.proofs.Sheets.{check_sound, make_by, make_wrote}
@@ -30,7 +31,7 @@ module _ (cs : List Call) (start k : Desk) (f : Fresh start) (run : Run start cs
   means = left_means cs start k f run
 
   -- every check of a run, for every claim and all entries
-  pub check_due : (es : List SheetEntry) (r : Judgement) → Checks k.shelf k.lesson A truth es r → CheckDue (left cs) A truth es r
+  pub check_due : (es : List SheetEntry) (r : Result (Unit {0}) Refusal) → Checks k.shelf k.lesson A truth es r → CheckDue (left cs) A truth es r
   check_due es r h =
       let says = h.says ∙ ap (λ (d : State). check_says d A truth es) means in
       record {
@@ -39,22 +40,22 @@ module _ (cs : List Call) (start k : Desk) (f : Fresh start) (run : Run start cs
       }
 
   -- every call of the maker in a run, for a literal of the book
-  pub make_due : A ∈ in_book (left cs).book → (lent : List SheetEntry) (r : MakeAnswer) (after : List SheetEntry) → Makes k.shelf k.lesson A truth lent r after
-      → MakeDue (left cs) A truth lent (make_said r) after
+  pub make_due : A ∈ in_book (left cs).book → (lent : List SheetEntry) (r : Result Made Refusal) (after : List SheetEntry) → Makes k.shelf k.lesson A truth lent r after
+      → MakeDue (left cs) A truth lent (make_told r) after
   make_due i lent r after h =
       record {
-        writes = λ so fits. given so fits (make_said r) turned;
+        writes = λ so fits. given so fits (make_told r) turned;
         few = λ n e. (wrote n e).0;
         accepted = λ n e. (wrote n e).1;
         rest = λ n e. (wrote n e).2;
       }
     where
-      wrote : (n : ℕ) → make_said r ≡ gives n → (n ≤ 2 * known_in (left cs).book) × (check_says (left cs) A truth (take n after) ≡ accepted) × (drop n after ≡ drop n lent)
+      wrote : (n : ℕ) → make_told r ≡ gives n → (n ≤ 2 * known_in (left cs).book) × (check_says (left cs) A truth (take n after) ≡ accepted) × (drop n after ≡ drop n lent)
       wrote n e =
           subst (λ (d : State). (n ≤ 2 * known_in d.book) × (check_says d A truth (take n after) ≡ accepted) × (drop n after ≡ drop n lent)) means
           (make_wrote k.shelf k.lesson A truth lent r after h n e)
 
-      turned : (n : ℕ) → make_said r ≡ refused n → First n (make_rows (left cs) A truth lent)
+      turned : (n : ℕ) → make_told r ≡ refused n → First n (make_rows (left cs) A truth lent)
       turned n e =
           subst (λ (d : State). First n (make_rows d A truth lent)) means ((make_by k.shelf k.lesson A truth lent r after h (left_good cs start k f run).sound n).0 e)
 

@@ -1,6 +1,6 @@
 -- The calls of a desk, each as one record: what a list of them leaves by its arguments alone (document 01, "What a list of calls leaves"), and what a run
 -- of it is. Then what the three demands, and requests A.3, A.7 and A.14 of document 02, say of a reply.
-use Rattle.std.specs.Prelude.{◌≡◌, ◌↔◌, Bool, true, false, List, ◌++◌, ℕ, ◌*◌, ◌≤◌, ◌<◌, length, take, drop}
+use Rattle.std.specs.Prelude.{◌≡◌, ◌↔◌, Bool, true, false, List, ◌++◌, ℕ, ◌*◌, ◌≤◌, ◌<◌, length, take, drop, Result, Ok, Err}
 use Rattle.wfsx.specs.Sets.{Set, ◌∈◌, ◌∉◌, ◌⊆◌, ◌∖◌}
 use Rattle.wfsx.specs.Program.{Program}
 use Rattle.wfsx.specs.Model.{M, N, PartialStable, value_in}
@@ -15,30 +15,25 @@ use Rattle.scan.specs.declared.Alphabet.TheVariants.{EitherCase}
 use Rattle.reader.specs.File.{Outcome, accepted, read_file}
 use Rattle.reader.specs.File as reader
 use Rattle.reader.specs.Conditions.{Row, First, IsRefused}
-use Rattle.reader.specs.declared.Answer.TheVariants as reading
-use Rattle.fixpoint.specs.Result.{ModelOf}
+use Rattle.fixpoint.specs.Result.{ModelOf, verdict_is}
+use Rattle.fixpoint.specs.declared.Verdict.{Verdict}
+use Rattle.reach.specs.declared.Order.{Order}
 use Rattle.sheet.specs.Sheet.{accepted as is-accepted, IsSo}
-use Rattle.sheet.specs.Answers.{judgement_of}
 use Rattle.sheet.specs.declared.SheetEntry.{SheetEntry}
-use Rattle.sheet.specs.declared.Judgement.{Judgement}
-use Rattle.lesson.specs.State.{unloaded, loaded_with, emptied, State, program_in, in_book, ContradictoryOver, listing_in, Said, gives, refused, state_after, known_in, judgement_says, check_says}
-use Rattle.lesson.specs.Calls.{change_said, Changes, verdict_said, GivesVerdict, search_said, Searches, model_said, GivesModel, order_said, GivesOrder, GivesGroups, listing_said, Lists, Previews, Checks, make_said, Makes}
+use Rattle.maker.specs.declared.Made.{Made}
+use Rattle.lesson.specs.State.{unloaded, loaded_with, emptied, State, program_in, in_book, ContradictoryOver, listing_in, Said, gives, refused, told_by, told, told_done, state_after, known_in, judgement_says, check_says}
+use Rattle.lesson.specs.Calls.{Changes, GivesVerdict, Searches, model_told, GivesModel, order_told, GivesOrder, groups_told, GivesGroups, Lists, Previews, judged, Checks, make_told, Makes}
 use Rattle.lesson.specs.Conditions.{change_rows, verdict_rows, search_rows, book_rows, listing_rows, preview_rows, check_rows, make_rows}
 use Rattle.lesson.specs.declared.Shelf.{Shelf}
 use Rattle.lesson.specs.declared.Lesson.{Lesson}
 use Rattle.lesson.specs.declared.Change.{Change}
-use Rattle.lesson.specs.declared.ChangeReply.{ChangeReply}
-use Rattle.lesson.specs.declared.VerdictAnswer.{VerdictAnswer}
-use Rattle.lesson.specs.declared.SearchAnswer.{SearchAnswer}
-use Rattle.lesson.specs.declared.ModelReply.{ModelReply}
-use Rattle.lesson.specs.declared.OrderReply.{OrderReply}
-use Rattle.lesson.specs.declared.GroupsReply.{GroupsReply}
-use Rattle.lesson.specs.declared.ListingAnswer.{ListingAnswer}
-use Rattle.lesson.specs.declared.MakeAnswer.{MakeAnswer}
+use Rattle.lesson.specs.declared.Refusal.{Refusal}
+use Rattle.lesson.specs.declared.WholeModel.{WholeModel}
+use Rattle.lesson.specs.declared.ModelByGroups.{ModelByGroups}
 use Rattle.calls.specs.Lists.{CallSpec, after_all, RunOf}
-use Rattle.desk.specs.Calls.{Loads}
+use Rattle.desk.specs.Calls.{refusal_at, Loads}
 use Rattle.desk.specs.declared.Desk.{Desk}
-use Rattle.desk.specs.declared.LoadReply.{LoadReply}
+use Rattle.desk.specs.declared.Refusal as loading
 
 -- A call with its arguments. A load has the bytes of its file, a listing and a preview those of the lent buffer; a change puts a literal in or takes it out, and
 -- a preview has the change that it tries; a search has a literal number, whether `~` stands before it, and T or TU. The check of a sheet and its maker have a
@@ -93,36 +88,37 @@ lent_call {B} buffer R Meets said rows =
       Unwritten = λ r. r.1 ≡ buffer;
     }
 
+-- a load or a change has the desk or the lesson that it leaves beside its answer
 abbrev pub spec_of : Call → CallSpec Desk State
 spec_of (load file) =
     record {
-      Reply = LoadReply;
-      Meets = λ k r. Loads k file r;
-      next = λ k r. r.desk;
+      Reply = Result (Unit {0}) loading.Refusal × Desk;
+      Meets = λ k r. Loads k file r.0 r.1;
+      next = λ k r. r.1;
       after = λ d. after_load d (read_file EitherCase file);
       TurnsDown = λ d number line. IsRefused file number line;
-      RefusedBy = λ r number line. r.answer ≡ reading.Refused number line;
+      RefusedBy = λ r number line. r.0 ≡ Err (refusal_at number line);
       Unwritten = λ r. Unit;
     }
 spec_of (change c) =
     record {
-      Reply = ChangeReply;
-      Meets = λ k r. Changes k.shelf k.lesson c r;
-      next = λ k r. record { shelf = k.shelf; lesson = r.lesson };
+      Reply = Result (Unit {0}) Refusal × Lesson;
+      Meets = λ k r. Changes k.shelf k.lesson c r.0 r.1;
+      next = λ k r. record { shelf = k.shelf; lesson = r.1 };
       after = λ d. state_after d c;
       TurnsDown = λ d number line. First number (change_rows d c);
-      RefusedBy = λ r number line. change_said r.answer ≡ refused number;
+      RefusedBy = λ r number line. told_done r.0 ≡ refused number;
       Unwritten = λ r. Unit;
     }
-spec_of (verdict A) = reading_call VerdictAnswer (λ s l r. GivesVerdict s l A r) verdict_said (λ d. verdict_rows d A)
-spec_of (search_for A default t) = reading_call SearchAnswer (λ s l r. Searches s l A t (question_of A default) r) search_said (λ d. search_rows d A)
-spec_of model = reading_call ModelReply GivesModel (λ r. model_said r.answer) book_rows
-spec_of working_order = reading_call OrderReply (λ s l r. GivesOrder s r) (λ r. order_said r.answer) book_rows
-spec_of model_by_groups = reading_call GroupsReply GivesGroups (λ r. model_said r.answer) book_rows
-spec_of (listing buffer) = lent_call buffer ListingAnswer (λ s l r after. Lists s l buffer r after) listing_said (λ d. listing_rows d buffer)
-spec_of (preview c buffer) = lent_call buffer ListingAnswer (λ s l r after. Previews s l c buffer r after) listing_said (λ d. preview_rows d c buffer)
-spec_of (check_sheet A truth es) = reading_call Judgement (λ s l r. Checks s l A truth es r) (λ r. judgement_says (judgement_of r)) (λ d. check_rows d A truth es)
-spec_of (make_sheet A truth run) = lent_call run MakeAnswer (λ s l r after. Makes s l A truth run r after) make_said (λ d. make_rows d A truth run)
+spec_of (verdict A) = reading_call (Result Verdict Refusal) (λ s l r. GivesVerdict s l A r) (λ r. told_by verdict_is r) (λ d. verdict_rows d A)
+spec_of (search_for A default t) = reading_call (Result Bool Refusal) (λ s l r. Searches s l A t (question_of A default) r) told (λ d. search_rows d A)
+spec_of model = reading_call (Result WholeModel Refusal) GivesModel model_told book_rows
+spec_of working_order = reading_call (Result Order Refusal) (λ s l r. GivesOrder s r) order_told book_rows
+spec_of model_by_groups = reading_call (Result ModelByGroups Refusal) GivesGroups groups_told book_rows
+spec_of (listing buffer) = lent_call buffer (Result ℕ Refusal) (λ s l r after. Lists s l buffer r after) told (λ d. listing_rows d buffer)
+spec_of (preview c buffer) = lent_call buffer (Result ℕ Refusal) (λ s l r after. Previews s l c buffer r after) told (λ d. preview_rows d c buffer)
+spec_of (check_sheet A truth es) = reading_call (Result (Unit {0}) Refusal) (λ s l r. Checks s l A truth es r) (λ r. judgement_says (judged r)) (λ d. check_rows d A truth es)
+spec_of (make_sheet A truth run) = lent_call run (Result Made Refusal) (λ s l r after. Makes s l A truth run r after) make_told (λ d. make_rows d A truth run)
 
 -- ---- lists
 
@@ -175,9 +171,11 @@ pub record ConsistencyDue (d : State) (said : Said Bool) : Type 0 where
   pub consistent : (said ≡ gives false) ↔ (ContradictoryOver (in_book d.book) d → ⊥)
 
 -- the model call answers M, N, how many rounds M takes (document 02, A.10) and whether the lesson is contradictory
-pub record ModelDue (d : State) (r : ModelReply) : Type 0 where
-  pub consistency : ConsistencyDue d (model_said r.answer)
-  pub model_is : ModelOf (program_in d) r.model
+pub record ModelDue (d : State) (r : Result WholeModel Refusal) : Type 0 where
+  pub consistency : ConsistencyDue d (model_told r)
+  pub given : WholeModel
+  pub is_given : r ≡ Ok given
+  pub model_is : ModelOf (program_in d) given.model
 
 -- the listing call answers the listing's length and writes the listing, byte for byte; the bytes after it stay
 pub record ListingDue (d : State) (buffer : List ℕ) (said : Said ℕ) (after : List ℕ) : Type 0 where
@@ -187,9 +185,9 @@ pub record ListingDue (d : State) (buffer : List ℕ) (said : Said ℕ) (after :
 -- ---- what is due of proof sheets (document 02, A.3)
 
 -- the check answers what the definition says, 27 with its index; a claim that it accepts is so
-pub record CheckDue (d : State) (A : ℕ) (truth : Bool) (es : List SheetEntry) (r : Judgement) : Type 0 where
-  pub says : judgement_of r ≡ check_says d A truth es
-  pub sound : judgement_of r ≡ is-accepted → IsSo (program_in d) truth A
+pub record CheckDue (d : State) (A : ℕ) (truth : Bool) (es : List SheetEntry) (r : Result (Unit {0}) Refusal) : Type 0 where
+  pub says : judged r ≡ check_says d A truth es
+  pub sound : judged r ≡ is-accepted → IsSo (program_in d) truth A
 
 -- the maker writes a sheet for every claim that is so, of at most two entries for each literal, which the check accepts; the entries after it stay
 pub record MakeDue (d : State) (A : ℕ) (truth : Bool) (run : List SheetEntry) (said : Said ℕ) (after : List SheetEntry) : Type 0 where
@@ -206,6 +204,8 @@ pub record AccordDue (P : Program) (A : ℕ) (said : Said wfsx.Verdict) : Type 0
   pub accords : (v : wfsx.Verdict) → said ≡ gives v → Accords P A v
 
 -- the model call says that the lesson is not contradictory, and every answer set lies between the two sets that it gives
-pub record BetweenDue (P : Program) (r : ModelReply) : Type 0 where
-  pub consistent : model_said r.answer ≡ gives false
-  pub between : (S : Set) → AnswerSet P S → (set_of r.model.truths.words ⊆ S) × (S ⊆ set_of r.model.nonfalse.words)
+pub record BetweenDue (P : Program) (r : Result WholeModel Refusal) : Type 0 where
+  pub consistent : model_told r ≡ gives false
+  pub given : WholeModel
+  pub is_given : r ≡ Ok given
+  pub between : (S : Set) → AnswerSet P S → (set_of given.model.truths.words ⊆ S) × (S ⊆ set_of given.model.nonfalse.words)

@@ -2,7 +2,10 @@
 // it changes both. A list of calls on a desk is what the demands of document 01 are about (specs/Runs.antt).
 #![tactic(auto)]
 
-ghost use Rattle.desk.specs.Calls.{Begun, Fresh, Loads};
+ghost use Rattle.std.specs.Prelude.{◌≡◌};
+ghost use Rattle.scan.specs.declared.Alphabet.TheVariants.{EitherCase};
+ghost use Rattle.reader.specs.File.{read_file};
+ghost use Rattle.desk.specs.Calls.{Begun, Fresh, Reads, Loads};
 
 use book::Book;
 use lesson::{Lesson, Shelf};
@@ -15,19 +18,21 @@ pub struct Desk {
     pub lesson: Lesson,
 }
 
-#[derive(Clone, Copy)]
-pub struct LoadReply {
-    pub answer: Answer,
-    pub desk: Desk,
+// Why a file is turned down: document 01's number and the line of the file.
+#[derive(Clone, Copy, Debug, PartialEq, Eq)]
+pub struct Refusal {
+    pub number: u8,
+    pub line: usize,
 }
 
 // A desk whose lesson begins on this book; `loaded` 0 says that there is none.
 fn begun(loaded: u8, book: Book) -> Desk
     ensures { Begun loaded book result }
 {
+    let lesson = lesson::begin(&book);
     Desk {
         shelf: Shelf { loaded, book },
-        lesson: lesson::begin(book),
+        lesson,
     }
 }
 
@@ -38,25 +43,24 @@ pub fn fresh() -> Desk
     begun(0, book::no_book())
 }
 
-// A file becomes the book and empties the facts, or is refused under its number and line.
-pub fn load(desk: Desk, file: &[u8]) -> LoadReply
-    ensures { Loads desk file.now result }
+// The book of a file, or why the reader turns it down.
+#[tactic(auto, using(crate::proofs::Reading::reads_accepted, crate::proofs::Reading::reads_refused))]
+fn read(file: &[u8]) -> Result<Book, Refusal>
+    ensures { Reads (read_file EitherCase file.now) result }
 {
-    let read = reader::read(file);
-    let answer = read.answer;
-    match answer {
-        Answer::Accepted => {
-            let book = read.book;
-            return LoadReply {
-                answer: Answer::Accepted,
-                desk: begun(1, book),
-            };
-        }
-        Answer::Refused { number, line } => {
-            return LoadReply {
-                answer: Answer::Refused { number, line },
-                desk,
-            };
-        }
+    let loaded = reader::read(file);
+    match loaded.answer {
+        Answer::Accepted => Ok(loaded.book),
+        Answer::Refused { number, line } => Err(Refusal { number, line }),
     }
+}
+
+// A file becomes the book and empties the facts, or is refused under its number and line.
+#[tactic(auto, using(crate::proofs::LoadLaws::load_accepted, crate::proofs::LoadLaws::load_refused))]
+pub fn load(desk: &mut Desk, file: &[u8]) -> Result<(), Refusal>
+    ensures { Loads desk.old file.now result desk.new }
+{
+    let book = read(file)?;
+    *desk = begun(1, book);
+    Ok(())
 }

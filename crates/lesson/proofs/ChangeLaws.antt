@@ -1,44 +1,44 @@
 -- Putting in and taking out leave the lesson what their arguments say, or leave it as it was; and some reply meets their contract.
 use mathlib.Core.Path.{◌≡◌, refl, sym, ◌∙◌, ap}
-use mathlib.Core.Bool.{Bool, true, false, and-false, true≢false}
+use mathlib.Core.Bool.{Bool, true, false, cond, and-false, true≢false}
 use mathlib.Core.Logic.{inr}
 use Prim.Native.Nat.{ℕ}
 use native.Mathlib.Omega.{arith}
 use lib.ListN.{length}
 use borrow.Author.Tests.{eq-eqb, lt-ltb}
 use Rattle.wfsx.specs.Sets.{Set, add}
-use Rattle.litset.specs.Words.{capacity, without}
+use Rattle.litset.specs.Words.{capacity, set_of, without}
 use Rattle.litset.proofs.Made.{words_for}
 use Rattle.litset.proofs.Words.{without_at}
-use Rattle.lesson.specs.State.{its_names, in_force, program_in, Said, gives, refused, Ack, acknowledged, its_literal, change_fits, change_says, changed_set, changed, state_after}
-use Rattle.lesson.specs.Calls.{shelf_of, own_of, meaning_of, change_said, LessonAfter, Changes}
+use Rattle.std.specs.Prelude.{Result, Ok, Err}
+use Rattle.lesson.specs.State.{State, none_loaded, in_book, if_loaded, in_order, its_names, in_force, program_in, Said, gives, refused, Ack, acknowledged, told_done, its_literal, change_fits, change_says, changed_set, changed, state_after}
+use Rattle.lesson.specs.Calls.{shelf_of, own_of, meaning_of, LessonAfter, Changes}
 use Rattle.lesson.specs.declared.Shelf.{Shelf}
 use Rattle.lesson.specs.declared.Lesson.{Lesson}
 use Rattle.lesson.specs.declared.Change.{Change}
 use Rattle.lesson.specs.declared.Change.TheVariants.{PutIn, TakeOut}
-use Rattle.lesson.specs.declared.ChangeReply.{ChangeReply}
-use Rattle.lesson.specs.declared.ChangeAnswer.{ChangeAnswer}
-use Rattle.lesson.specs.declared.ChangeAnswer.TheVariants as change
-use Rattle.lesson.proofs.Order.{given_refused, given_inside, inside}
+use Rattle.lesson.specs.declared.Refusal.{Refusal}
+use Rattle.lesson.specs.declared.Refusal.TheVariants as refusal
+use Rattle.lesson.proofs.Order.{given_refused, refused_same, given_inside, inside}
+use Rattle.lesson.proofs.Refusals.{Told, order_told_lem}
 use Rattle.lesson.proofs.Marks.{marks_exist}
 use Rattle.lesson.proofs.Sound.{Sound, sound_change, book_in_room, heads_in_room}
 
-module _ (s : Shelf) (l : Lesson) (c : Change) where
-  module _ (r : ChangeReply) (h : Changes s l c r) where
-    pub change_means : meaning_of s r.lesson ≡ state_after (meaning_of s l) c
-    change_means = go r.answer h.says h.leaves
-      where
-        go : (a : ChangeAnswer) → change_said a ≡ change_says (meaning_of s l) c → LessonAfter s l (changed c (own_of l)) a r.lesson
-            → meaning_of s r.lesson ≡ state_after (meaning_of s l) c
-        go change.Done e w = rw (w.own_is, ← e) refl
-        go (change.Refused n) e w = rw (w, ← e) refl
+module _ (s : Shelf) (l : Lesson) (c : Change) (r : Result (Unit {0}) Refusal) (m : Lesson) (h : Changes s l c r m) where
+  pub change_means : meaning_of s m ≡ state_after (meaning_of s l) c
+  change_means = go r h.says h.leaves
+    where
+      go : (r : Result (Unit {0}) Refusal) → told_done r ≡ change_says (meaning_of s l) c → LessonAfter s l (changed c (own_of l)) r m
+          → meaning_of s m ≡ state_after (meaning_of s l) c
+      go (Ok done) e w = rw (w.own_is, ← e) refl
+      go (Err f) e w = rw (w, ← e) refl
 
-    pub change_kept : (number : ℕ) → change_said r.answer ≡ refused number → r.lesson ≡ l
-    change_kept number e = go r.answer e h.leaves
-      where
-        go : (a : ChangeAnswer) → change_said a ≡ refused number → LessonAfter s l (changed c (own_of l)) a r.lesson → r.lesson ≡ l
-        go change.Done e w = absurd (given_refused acknowledged number e)
-        go (change.Refused n) e w = w
+  pub change_kept : (number : ℕ) → told_done r ≡ refused number → m ≡ l
+  change_kept number e = go r e h.leaves
+    where
+      go : (r : Result (Unit {0}) Refusal) → told_done r ≡ refused number → LessonAfter s l (changed c (own_of l)) r m → m ≡ l
+      go (Ok done) e w = absurd (given_refused acknowledged number e)
+      go (Err f) e w = w
 
 -- ---- some reply meets the contract
 
@@ -59,11 +59,35 @@ differs (TakeOut A) S f same = go (S A) refl f
         true≢false (sym e ∙ sym (ap (λ (F : Set). F A) same) ∙ removed)
     go false e h = given_refused acknowledged 23 (sym h)
 
-pub change_exists : (s : Shelf) (l : Lesson) (c : Change) → Sound (meaning_of s l) → (r : ChangeReply) × Changes s l c r
-unfolding change_says in_force own_of
-change_exists s l c sound = go (change_says (meaning_of s l) c) refl
+-- and none of its numbers has an index
+pub change_not_27 : (d : State) (c : Change) → change_says d c ≡ refused 27 → ⊥
+unfolding change_says in_order if_loaded
+change_not_27 d c = go (none_loaded d.book) (in_book d.book (its_literal c)) c (d.own.put_in (its_literal c))
   where
-    accepted : change_says (meaning_of s l) c ≡ gives acknowledged → (r : ChangeReply) × Changes s l c r
+    other : (n : ℕ) → (n ≡ 27 → ⊥) → ◌≡◌ {A = Said Ack} (refused n) (refused 27) → ⊥
+    other n never e = never (refused_same n 27 e)
+
+    go : (a i : Bool) (c : Change) (now : Bool) → cond a (refused 20) (cond i (change_fits c now) (refused 21)) ≡ refused 27 → ⊥
+    go true i c now = other 20 (λ e. omega arith)
+    go false false c now = other 21 (λ e. omega arith)
+    go false true (PutIn A) true = other 22 (λ e. omega arith)
+    go false true (PutIn A) false = given_refused acknowledged 27
+    go false true (TakeOut A) true = given_refused acknowledged 27
+    go false true (TakeOut A) false = other 23 (λ e. omega arith)
+
+pub change_exists : (s : Shelf) (l : Lesson) (c : Change) → Sound (meaning_of s l) → (r : Result (Unit {0}) Refusal) × (m : Lesson) × Changes s l c r m
+unfolding change_says in_force own_of
+change_exists s l c sound =
+    let w = order_told_lem (λ (done : Unit {0}). acknowledged) (shelf_of s) _ (fits c (set_of l.facts.words (its_literal c))) (its_literal c) in
+    go w.0 w.1
+  where
+    fits : (c : Change) (now : Bool) → Told (λ (done : Unit {0}). acknowledged) (change_fits c now)
+    fits (PutIn A) true = (Err refusal.AlreadyPutIn, refl)
+    fits (PutIn A) false = (Ok tt, refl)
+    fits (TakeOut A) true = (Ok tt, refl)
+    fits (TakeOut A) false = (Err refusal.NotPutIn, refl)
+
+    accepted : change_says (meaning_of s l) c ≡ gives acknowledged → (m : Lesson) × Changes s l c (Ok tt) m
     accepted e =
         let d = meaning_of s l in
         let own = changed c (own_of l) in
@@ -73,13 +97,13 @@ change_exists s l c sound = go (change_says (meaning_of s l) c) refl
         let facts = words_for own.put_in (λ A h. lt-ltb A capacity (book_in_room _ after A (after.facts_known A h))) in
         let few = after.few_names in
         let m = marks_exist (length (its_names (shelf_of s))) (program_in (record { book = shelf_of s; own = own })) (omega arith) (heads_in_room _ after) in (
-          record { answer = change.Done; lesson = record { facts = facts.0; marks = m.0 } },
+          record { facts = facts.0; marks = m.0 },
           record {
             says = sym e;
             leaves = record { own_is = ap (λ (S : Set). record { put_in = S }) facts.2; marks_are = inr (other, m.1) };
           },
         )
 
-    go : (said : Said Ack) → change_says (meaning_of s l) c ≡ said → (r : ChangeReply) × Changes s l c r
-    go (gives acknowledged) e = accepted e
-    go (refused n) e = (record { answer = change.Refused n; lesson = l }, record { says = sym e; leaves = refl })
+    go : (r : Result (Unit {0}) Refusal) → told_done r ≡ change_says (meaning_of s l) c → (r : Result (Unit {0}) Refusal) × (m : Lesson) × Changes s l c r m
+    go (Ok done) e = let w = accepted (sym e) in (Ok tt, w.0, w.1)
+    go (Err f) e = (Err f, l, record { says = e; leaves = refl })

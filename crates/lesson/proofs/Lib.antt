@@ -1,5 +1,6 @@
 -- The laws of the calls on a lesson.
 pub mod Order
+pub mod Refusals
 pub mod WithBook
 pub mod Meaning
 pub mod Marks

@@ -42,9 +42,13 @@ module _ (s : Shelf) where
   pub loaded_is : (s.loaded ≡ 0 → ⊥) → none_loaded (shelf_of s) ≡ false
   loaded_is e = rw (shelf_loaded e) refl
 
-  module _ (e : s.loaded ≡ 0 → ⊥) (A n : ℕ) (count : n ≡ clamp max_names s.book.names) where
+  -- a shelf that means a book has it
+  pub shelf_is : none_loaded (shelf_of s) ≡ false → shelf_of s ≡ loaded_with (names_of s.book) (rules_of s.book)
+  shelf_is e = shelf_loaded (λ z. true≢false (sym (none_loaded_is z) ∙ e))
+
+  module _ (e : none_loaded (shelf_of s) ≡ false) (A n : ℕ) (count : n ≡ clamp max_names s.book.names) where
     twice_names : 2 * length (its_names (shelf_of s)) ≡ 2 * n
-    twice_names = ap (λ (b : BookState). 2 * length (its_names b)) (shelf_loaded e) ∙ ap (2 *◌) (names_counted s.book ∙ sym count)
+    twice_names = ap (λ (b : BookState). 2 * length (its_names b)) (shelf_is e) ∙ ap (2 *◌) (names_counted s.book ∙ sym count)
 
     pub literal_outside : 2 * n ≤ A → in_book (shelf_of s) A ≡ false
     unfolding in_book
@@ -53,10 +57,6 @@ module _ (s : Shelf) where
     pub literal_inside : A < 2 * n → in_book (shelf_of s) A ≡ true
     unfolding in_book
     literal_inside h = ap (ltb A) twice_names ∙ lt-ltb A (2 * n) h
-
-  -- a shelf that means a book has it
-  pub shelf_is : none_loaded (shelf_of s) ≡ false → shelf_of s ≡ loaded_with (names_of s.book) (rules_of s.book)
-  shelf_is e = shelf_loaded (λ z. true≢false (sym (none_loaded_is z) ∙ e))
 
   -- the program of a lesson beside it
   pub program_is : none_loaded (shelf_of s) ≡ false → (o : Own) → program_of s.book (in_force o) ≡ program_in (record { book = shelf_of s; own = o })

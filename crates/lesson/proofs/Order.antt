@@ -4,11 +4,10 @@ use mathlib.Core.Bool.{Bool, true, false, cond, true≢false}
 use Prim.Native.Nat.{ℕ, ◌*◌, ◌<◌}
 use native.Mathlib.Omega.{arith}
 use lib.ListN.{length}
-use borrow.Author.Tests.{eq-eqb, ne_eqb, ltb-true}
+use borrow.Author.Tests.{ltb-true}
 use Rattle.wfsx.specs.Sets.{◌∈◌}
 use Rattle.wfsx.specs.Reach.{name_of}
 use Rattle.lesson.specs.State.{Ack, acknowledged, BookState, unloaded, loaded_with, its_names, none_loaded, in_book, Said, gives, refused, if_loaded, in_order, known_in}
-use Rattle.lesson.specs.Calls.{number_says}
 
 abbrev is_given : {X : Type 0} → Said X → Bool
 is_given (gives x) = true
@@ -38,10 +37,6 @@ module _ {X : Type 0} (b : BookState) (said : Said X) where
   loaded_says e = rw e refl
 
 module _ {X : Type 0} (b : BookState) (A : ℕ) (said : Said X) where
-  pub none_loaded_lem : none_loaded b ≡ true → in_order b A said ≡ refused 20
-  unfolding in_order
-  none_loaded_lem e = unloaded_says b _ e
-
   pub outside : none_loaded b ≡ false → in_book b A ≡ false → in_order b A said ≡ refused 21
   unfolding in_order
   outside e i = loaded_says b _ e ∙ rw i refl
@@ -76,13 +71,6 @@ pub name_inside : (b : BookState) (A : ℕ) → A ∈ in_book b → name_of A < 
 unfolding in_book
 name_inside b A i = let h = ltb-true A (2 * length (its_names b)) i in omega arith
 
--- what a number says
-pub number_refused : (n : ℕ) → (n ≡ 0 → ⊥) → number_says n ≡ refused n
-number_refused n z = ap (λ (t : Bool). cond t (gives acknowledged) (refused n)) (ne_eqb n 0 z)
-
-pub number_given : (n : ℕ) → n ≡ 0 → number_says n ≡ gives acknowledged
-number_given n z = ap (λ (t : Bool). cond t (gives acknowledged) (refused n)) (eq-eqb n 0 z)
-
 -- what 20 or 21 turns down is turned down whatever fits the call
 pub turned_so : {X : Type 0} (b : BookState) (A n : ℕ) → in_order b A (gives acknowledged) ≡ refused n → (said : Said X) → refused n ≡ in_order b A said
 unfolding in_order if_loaded
@@ -93,14 +81,33 @@ turned_so {X} b A n e said = go (none_loaded b) (in_book b A) (sym e)
     go false true h = absurd (given_refused acknowledged n (sym h))
     go false false h = ap refused (refused_same n 21 h)
 
-module _ (b : BookState) (A n : ℕ) (e : number_says n ≡ in_order b A (gives acknowledged)) where
-  -- a number of the state decides before whatever fits the call
-  pub turned_down : {X : Type 0} (said : Said X) → (n ≡ 0 → ⊥) → refused n ≡ in_order b A said
-  turned_down said z = turned_so b A n (sym e ∙ number_refused n z) said
+-- what 20 turns down, too
+pub turned_loaded : {X : Type 0} (b : BookState) (n : ℕ) → refused n ≡ if_loaded b (gives acknowledged) → (said : Said X) → refused n ≡ if_loaded b said
+unfolding if_loaded
+turned_loaded {X} b n e said = go (none_loaded b) e
+  where
+    go : (a : Bool) → ◌≡◌ {A = Said Ack} (refused n) (cond a (refused 20) (gives acknowledged)) → ◌≡◌ {A = Said X} (refused n) (cond a (refused 20) said)
+    go true h = ap refused (refused_same n 20 h)
+    go false h = absurd (given_refused acknowledged n (sym h))
 
-  -- where the state turns nothing down, the call says what fits it
-  pub state_passed : n ≡ 0 → (none_loaded b ≡ false) × (A ∈ in_book b)
-  state_passed z = given_inside b A (gives acknowledged) acknowledged (sym e ∙ number_given n z)
+-- where 20 turns nothing down, there is a book
+pub loaded_passed : (b : BookState) → gives acknowledged ≡ if_loaded b (gives acknowledged) → none_loaded b ≡ false
+unfolding if_loaded
+loaded_passed b e = go (none_loaded b) e
+  where
+    go : (a : Bool) → ◌≡◌ {A = Said Ack} (gives acknowledged) (cond a (refused 20) (gives acknowledged)) → a ≡ false
+    go true h = absurd (given_refused acknowledged 20 h)
+    go false h = refl
 
-  pub passed : {X : Type 0} (said : Said X) → n ≡ 0 → in_order b A said ≡ said
-  passed said z = let p = state_passed z in inside b A said p.0 p.1
+module _ (b : BookState) (A : ℕ) where
+  -- a refusal by the state decides before whatever fits the call
+  pub turned_down : {X : Type 0} (n : ℕ) → refused n ≡ in_order b A (gives acknowledged) → (said : Said X) → refused n ≡ in_order b A said
+  turned_down n e said = turned_so b A n (sym e) said
+
+  module _ (e : gives acknowledged ≡ in_order b A (gives acknowledged)) where
+    -- where the state turns nothing down, the call says what fits it
+    pub state_passed : (none_loaded b ≡ false) × (A ∈ in_book b)
+    state_passed = given_inside b A (gives acknowledged) acknowledged (sym e)
+
+    pub passed : {X : Type 0} (said : Said X) → in_order b A said ≡ said
+    passed said = inside b A said state_passed.0 state_passed.1

@@ -1,6 +1,6 @@
 -- The calls about proof sheets: what they reply once the tests have picked an arm, when they are turned down, and what an accepted sheet tells. A sheet is judged
 -- over the lesson's own rules and facts, so an accepted claim is so in every lesson, whoever wrote the sheet.
-use mathlib.Core.Path.{◌≡◌, refl, sym, ◌∙◌, ap, ap₂}
+use mathlib.Core.Path.{◌≡◌, refl, sym, ◌∙◌, ap}
 use mathlib.Core.Bool.{Bool, true, false, cond, ◌&&◌}
 use mathlib.Core.List.Memᴰ
 use mathlib.Core.List.{List, [], ◌∷◌, ◌++◌}
@@ -19,10 +19,9 @@ use Rattle.book.specs.Book.{names_of, rules_of}
 use Rattle.book.proofs.Rows.{rows_length}
 use Rattle.sheet.specs.Sheet.{max_sheet, Fault, none, at, fault, kind_of, among, Judgement, accepted, judged_by, judgement, IsSo}
 use Rattle.sheet.specs.Sheet as sheet
-use Rattle.sheet.specs.Flat.{entry_in, entries_in, blank}
+use Rattle.sheet.specs.Flat.{entry_in, entries_in}
 use Rattle.sheet.specs.Answers.{judgement_of}
 use Rattle.sheet.specs.declared.SheetEntry.{SheetEntry}
-use Rattle.sheet.specs.declared.Sheet.{Sheet}
 use Rattle.sheet.specs.declared.Judgement as declared
 use Rattle.sheet.specs.declared.Judgement.TheVariants.{Accepted, Refused}
 use Rattle.sheet.proofs.Sound.{accepted_sound}
@@ -30,62 +29,90 @@ use Rattle.maker.specs.Result.{MadeFor}
 use Rattle.maker.specs.declared.Made.{Made}
 use Rattle.maker.proofs.Rounds.{rules_small}
 use Rattle.maker.proofs.Exists.{made_exists}
-use Rattle.lesson.specs.State.{unloaded, loaded_with, State, its_rules, in_force, program_in, none_loaded, in_book, Said, gives, refused, Ack, acknowledged, if_loaded, in_order, known_in, judged_in, judgement_says, unless_turned, check_says, make_says, entries_after}
-use Rattle.lesson.specs.Calls.{shelf_of, own_of, meaning_of, number_says, Checks, make_said, MakesUnless, MakesTable, Makes}
+use Rattle.std.specs.Prelude.{Result, Ok, Err, IfOk}
+use Rattle.std.proofs.lemmas.Result.{IfOk-at_ok}
+use Rattle.lesson.specs.State.{BookState, unloaded, loaded_with, State, its_rules, in_force, program_in, none_loaded, in_book, Said, gives, refused, number_of, Ack, acknowledged, if_loaded, in_order, known_in, judged_in, judgement_says, unless_turned, check_says, make_says}
+use Rattle.lesson.specs.Calls.{shelf_of, own_of, meaning_of, index_of, judged, IsOfCheck, Checks, make_told, MakesUnless, MakesTable, entries_after, Makes}
 use Rattle.lesson.specs.Conditions.{Miscounted, sheet_rows, check_rows, claim_rows, make_rows}
 use Rattle.lesson.specs.declared.Shelf.{Shelf}
 use Rattle.lesson.specs.declared.Lesson.{Lesson}
-use Rattle.lesson.specs.declared.MakeAnswer.{MakeAnswer}
-use Rattle.lesson.specs.declared.MakeAnswer.TheVariants as making
-use Rattle.lesson.specs.declared.MakeReply.{MakeReply}
-use Rattle.lesson.proofs.Order.{given_refused, given_same, inside, given_inside, some_book, number_refused, number_given, turned_so, state_passed}
+use Rattle.lesson.specs.declared.Refusal.{Refusal}
+use Rattle.lesson.specs.declared.Refusal.TheVariants as refusal
+use Rattle.lesson.proofs.Order.{given_refused, refused_same, given_same, inside, given_inside, some_book, turned_so, state_passed}
+use Rattle.lesson.proofs.Refusals.{Told, order_told_lem, told_ok}
 use Rattle.lesson.proofs.Meaning.{shelf_is}
 use Rattle.lesson.proofs.Sound.{Sound, book_in_room, literals_within}
 use Rattle.lesson.proofs.Rows.{By, met, unmet, given_by, order_by_lem}
 
 -- ---- what the functions reply
 
-module _ (s : Shelf) (l : Lesson) (A n : ℕ) (e : number_says n ≡ in_order (shelf_of s) A (gives acknowledged)) (truth : Bool) where
-  turned : (n ≡ 0 → ⊥) → in_order (shelf_of s) A (gives acknowledged) ≡ refused n
-  turned z = sym e ∙ number_refused n z
+-- 20 and 21 are of the claim, and have no index
+index_0 : (e : Refusal) (b : BookState) (A : ℕ) → refused (number_of e) ≡ in_order b A (gives acknowledged) → index_of e ≡ 0
+unfolding in_order if_loaded
+index_0 e b A h = go e (none_loaded b) (in_book b A) h
+  where
+    go : (e : Refusal) (a i : Bool) → ◌≡◌ {A = Said Ack} (refused (number_of e)) (cond a (refused 20) (cond i (gives acknowledged) (refused 21))) → index_of e ≡ 0
+    go refusal.NoBook a i h = refl
+    go refusal.NotInBook a i h = refl
+    go refusal.AlreadyPutIn a i h = refl
+    go refusal.NotPutIn a i h = refl
+    go refusal.ContradictoryName a i h = refl
+    go refusal.TooShort a i h = refl
+    go refusal.EntryCount a i h = refl
+    go refusal.ClaimNotShown a i h = refl
+    go (refusal.EntryAt index) true i h = let z = refused_same 27 20 h in absurd (omega arith)
+    go (refusal.EntryAt index) false true h = absurd (given_refused acknowledged 27 (sym h))
+    go (refusal.EntryAt index) false false h = let z = refused_same 27 21 h in absurd (omega arith)
 
-  not_turned : n ≡ 0 → in_order (shelf_of s) A (gives acknowledged) ≡ gives acknowledged
-  not_turned z = sym e ∙ number_given n z
+not_accepted : (number index : ℕ) → sheet.refused number index ≡ accepted → ⊥
+not_accepted number index h = let z : ◌≡◌ {A = ℕ} 0 1 = cc in omega arith
 
-  pub check_state : (n ≡ 0 → ⊥) → (es : List SheetEntry) → Checks s l A truth es (Refused n 0)
-  unfolding check_says
-  check_state z es = record { says = rw (turned z) refl }
+-- the check of a sheet has the refusals of a sheet
+pub of_check : (rules : List Rule) (facts : Set) (known : ℕ) (truth : Bool) (A : ℕ) (es : List SheetEntry) (r : declared.Judgement)
+    → judgement_of r ≡ judgement rules facts known truth A es → IsOfCheck r
+unfolding judgement judged_by
+of_check rules facts known truth A es r h = go r _ (fault rules facts known es) (among (kind_of truth) A es) h
+  where
+    go : (r : declared.Judgement) (counted : Bool) (f : Fault) (claimed : Bool) → judgement_of r ≡ cond counted (judged_by f claimed) (sheet.refused 26 0) → IsOfCheck r
+    go Accepted counted f claimed h = record {}
+    go (Refused number index) true (at i) claimed h = inl cc
+    go (Refused number index) true none true h = absurd (not_accepted number index h)
+    go (Refused number index) true none false h = inr (inr cc, cc)
+    go (Refused number index) false f claimed h = inr (inl cc, cc)
 
-  pub check_given : n ≡ 0 → (es : List SheetEntry) (F : Set) → F ≡ in_force (own_of l) → (r : declared.Judgement)
-      → judgement_of r ≡ judgement (rules_of s.book) F (2 * length (names_of s.book)) truth A es → Checks s l A truth es r
-  unfolding check_says judged_in
-  check_given z es F force r h = record { says = rw (not_turned z) (h ∙ rw (force, shelf_is s (state_passed (shelf_of s) A n e z).0) refl) }
+module _ (s : Shelf) (l : Lesson) (A : ℕ) (truth : Bool) where
+  module _ (e : Refusal) (h : refused (number_of e) ≡ in_order (shelf_of s) A (gives acknowledged)) where
+    pub check_state : (es : List SheetEntry) → Checks s l A truth es (Err e)
+    unfolding check_says
+    check_state es = record { says = rw (← h, index_0 e (shelf_of s) A h) refl }
 
-  pub make_state : (n ≡ 0 → ⊥) → (room : ℕ) (sheet : Sheet) → MakesTable s l A truth room (record { answer = making.Refused n; sheet = sheet })
-  make_state z room sheet = record { unless = rw (turned z) refl }
+    pub make_state : (room : ℕ) → MakesTable s l A truth room (Err e)
+    make_state room = record { unless = rw (← h) refl }
 
-  pub make_given : n ≡ 0 → (room : ℕ) (F : Set) → F ≡ in_force (own_of l) → (m : Made) → MadeFor (rules_of s.book) F (2 * length (names_of s.book)) truth A m
-      → (names : ℕ) → names ≡ length (names_of s.book) → (a : MakeAnswer) → make_said a ≡ make_says (2 * names) room m.found m.count
-      → MakesTable s l A truth room (record { answer = a; sheet = m.sheet })
-  make_given z room F force m h names count a q =
-      let book = shelf_is s (state_passed (shelf_of s) A n e z).0 in
-      record {
-        unless = rw (not_turned z) (record { made = m; made_for = rw (book, ← force) h; says = q ∙ rw (book, count) refl; table = refl });
-      }
+  module _ (e : gives acknowledged ≡ in_order (shelf_of s) A (gives acknowledged)) where
+    pub check_given : (es : List SheetEntry) (F : Set) → F ≡ in_force (own_of l) → (r : Result (Unit {0}) Refusal)
+        → judged r ≡ judgement (rules_of s.book) F (2 * length (names_of s.book)) truth A es → Checks s l A truth es r
+    unfolding check_says judged_in
+    check_given es F force r h = record { says = rw (← e) (h ∙ rw (force, shelf_is s (state_passed (shelf_of s) A e).0) refl) }
 
--- what the maker answers
-module _ (names room : ℕ) {found : Bool} (count : ℕ) where
-  pub make_28 : found ≡ false → refused 28 ≡ make_says (2 * names) room found count
-  unfolding make_says
-  make_28 f = rw f refl
+    module _ (room : ℕ) (F : Set) (force : F ≡ in_force (own_of l)) (m : Made) (h : MadeFor (rules_of s.book) F (2 * length (names_of s.book)) truth A m)
+        (names : ℕ) (count : names ≡ length (names_of s.book)) where
+      made : (r : Result Made Refusal) → make_told r ≡ make_says (2 * names) room m.found m.count → IfOk r (λ n. n ≡ m) → MakesTable s l A truth room r
+      made r q i =
+          let book = shelf_is s (state_passed (shelf_of s) A e).0 in
+          record { unless = rw (← e) (record { made = m; made_for = rw (book, ← force) h; says = q ∙ rw (book, count) refl; gives_it = i }) }
 
-  pub make_25 : found ≡ true → room < 4 * names → refused 25 ≡ make_says (2 * names) room found count
-  unfolding make_says
-  make_25 f h = rw (f, lt-leb (2 * (2 * names)) room (omega arith)) refl
+      pub make_28 : m.found ≡ false → MakesTable s l A truth room (Err refusal.ClaimNotShown)
+      unfolding make_says
+      make_28 f = made (Err refusal.ClaimNotShown) (rw f refl) (record {})
 
-  pub make_count : found ≡ true → 4 * names ≤ room → gives count ≡ make_says (2 * names) room found count
-  unfolding make_says
-  make_count f h = rw (f, le-leb (2 * (2 * names)) room (omega arith)) refl
+      pub make_25 : m.found ≡ true → room < 4 * names → MakesTable s l A truth room (Err refusal.TooShort)
+      unfolding make_says
+      make_25 f h = made (Err refusal.TooShort) (rw (f, lt-leb (2 * (2 * names)) room (omega arith)) refl) (record {})
+
+      pub make_count : m.found ≡ true → 4 * names ≤ room → MakesTable s l A truth room (Ok m)
+      unfolding make_says
+      make_count f h = made (Ok m) (rw (f, le-leb (2 * (2 * names)) room (omega arith)) refl) refl
 
 -- ---- when the check is turned down, and what an accepted sheet tells
 
@@ -179,7 +206,7 @@ said_count known room found count n e = go found (leb (2 * known) room) refl e
     go false t y q = absurd (given_refused n 28 (sym q))
 
 -- no more entries are written than there is room for
-pub make_within : (s : Shelf) (l : Lesson) (A : ℕ) (truth : Bool) (room : ℕ) (r : MakeReply) → MakesTable s l A truth room r → (n : ℕ) → make_said r.answer ≡ gives n → n ≤ room
+pub make_within : (s : Shelf) (l : Lesson) (A : ℕ) (truth : Bool) (room : ℕ) (r : Result Made Refusal) → MakesTable s l A truth room r → (n : ℕ) → make_told r ≡ gives n → n ≤ room
 make_within s l A truth room r h n e = go (in_order (shelf_of s) A (gives acknowledged)) h.unless
   where
     go : (said : Said Ack) → MakesUnless said s l A truth room r → n ≤ room
@@ -190,12 +217,16 @@ make_within s l A truth room r h n e = go (in_order (shelf_of s) A (gives acknow
 
 -- ---- when the maker is turned down
 
-module _ (s : Shelf) (l : Lesson) (A : ℕ) (truth : Bool) (before : List SheetEntry) (a : MakeAnswer) (after : List SheetEntry) (h : Makes s l A truth before a after) where
+module _ (s : Shelf) (l : Lesson) (A : ℕ) (truth : Bool) (before : List SheetEntry) (r : Result Made Refusal) (after : List SheetEntry) (h : Makes s l A truth before r after) where
   abbrev d : State
   d = meaning_of s l
 
-  pub make_unwritten : (n : ℕ) → make_said a ≡ refused n → after ≡ before
-  make_unwritten n e = h.entries ∙ ap (entries_after h.reply.sheet.fields before) e
+  pub make_unwritten : (n : ℕ) → make_told r ≡ refused n → after ≡ before
+  make_unwritten n e = go r e h.entries
+    where
+      go : (r : Result Made Refusal) → make_told r ≡ refused n → after ≡ entries_after before r → after ≡ before
+      go (Ok m) e w = absurd (given_refused m.count n e)
+      go (Err f) e w = w
 
   module _ (sound : Sound d) where
     facts_room : (B : ℕ) → B ∈ in_force d.own → B < capacity
@@ -226,44 +257,47 @@ module _ (s : Shelf) (l : Lesson) (A : ℕ) (truth : Bool) (before : List SheetE
         by_found true e = unmet 28 (IsSo (program_in d) truth A → ⊥) ((25, Short) ∷ []) _ (λ never. never (found_so m f e)) (by_room (leb (2 * known_in (shelf_of s)) (length before)) refl)
         by_found false e = met 28 (IsSo (program_in d) truth A → ⊥) ((25, Short) ∷ []) _ (λ so. clash (so_found m f i so) e) refl
 
-    pub make_by : By (make_said a) (make_rows d A truth before)
+    pub make_by : By (make_told r) (make_rows d A truth before)
     make_by = go (in_order (shelf_of s) A (gives acknowledged)) refl h.makes.unless
       where
-        go : (said : Said Ack) → in_order (shelf_of s) A (gives acknowledged) ≡ said → MakesUnless said s l A truth (length before) h.reply → By (make_said a) (make_rows d A truth before)
+        go : (said : Said Ack) → in_order (shelf_of s) A (gives acknowledged) ≡ said → MakesUnless said s l A truth (length before) r → By (make_told r) (make_rows d A truth before)
         go (gives x) e w =
             let in-book = given_inside (shelf_of s) A (gives acknowledged) x e in
-            let says : make_said a ≡ in_order (shelf_of s) A (make_says (known_in (shelf_of s)) (length before) w.made.found w.made.count) =
-            ap make_said h.answers ∙ w.says ∙ sym (inside (shelf_of s) A _ in-book.0 in-book.1) in
+            let says : make_told r ≡ in_order (shelf_of s) A (make_says (known_in (shelf_of s)) (length before) w.made.found w.made.count) =
+            w.says ∙ sym (inside (shelf_of s) A _ in-book.0 in-book.1) in
             rw says (order_by_lem d A (claim_rows d A truth before) _ (λ i. made_by w.made w.made_for i))
         go (refused n) e w =
-            let says : make_said a ≡ in_order (shelf_of s) A (refused 0) = ap make_said h.answers ∙ w ∙ turned_so (shelf_of s) A n e (refused 0) in
+            let says : make_told r ≡ in_order (shelf_of s) A (refused 0) = w ∙ turned_so (shelf_of s) A n e (refused 0) in
             rw says (order_by_lem d A (claim_rows d A truth before) (refused 0) (λ i. absurd (given_refused acknowledged n (sym (inside (shelf_of s) A (gives acknowledged) (some_book (shelf_of s) A i) i) ∙ e))))
 
   -- ---- what it wrote, in every lesson
 
   -- no more than two entries for each literal; the check accepts them; those after them stay
-  pub make_wrote : (n : ℕ) → make_said a ≡ gives n → (n ≤ 2 * known_in (shelf_of s)) × (check_says d A truth (take n after) ≡ accepted) × (drop n after ≡ drop n before)
+  pub make_wrote : (n : ℕ) → make_told r ≡ gives n → (n ≤ 2 * known_in (shelf_of s)) × (check_says d A truth (take n after) ≡ accepted) × (drop n after ≡ drop n before)
   make_wrote n e = go (in_order (shelf_of s) A (gives acknowledged)) refl h.makes.unless
     where
-      fields : List ℕ
-      fields = h.reply.sheet.fields
-
-      after_is : after ≡ entries_in fields n ++ drop n before
-      after_is = h.entries ∙ ap (entries_after fields before) e
-
-      size : length (entries_in fields n) ≡ n
-      size = rows_length (entry_in fields) 0 n
-
-      go : (said : Said Ack) → in_order (shelf_of s) A (gives acknowledged) ≡ said → MakesUnless said s l A truth (length before) h.reply
+      go : (said : Said Ack) → in_order (shelf_of s) A (gives acknowledged) ≡ said → MakesUnless said s l A truth (length before) r
           → (n ≤ 2 * known_in (shelf_of s)) × (check_says d A truth (take n after) ≡ accepted) × (drop n after ≡ drop n before)
-      go (refused m) q w = absurd (given_refused n m (sym e ∙ ap make_said h.answers ∙ w))
+      go (refused m) q w = absurd (given_refused n m (sym e ∙ w))
       go (gives x) q w = (omega (arith, counted.1, w.made_for.few), accepts, ap (drop n) after_is ∙ drop_at (entries_in fields n) (drop n before) n size)
         where
           counted : (w.made.found ≡ true) × (w.made.count ≡ n) × (2 * known_in (shelf_of s) ≤ length before)
-          counted = said_count (known_in (shelf_of s)) (length before) w.made.found w.made.count n (sym w.says ∙ sym (ap make_said h.answers) ∙ e)
+          counted = said_count (known_in (shelf_of s)) (length before) w.made.found w.made.count n (sym w.says ∙ e)
 
-          there : entries_in w.made.sheet.fields w.made.count ≡ take n after
-          there = ap₂ (λ (t : Sheet) (k : ℕ). entries_in t.fields k) (sym w.table) counted.1 ∙ sym (ap (take n) after_is ∙ take_at (entries_in fields n) (drop n before) n size)
+          given : r ≡ Ok w.made
+          given = let v = told_ok (λ (m : Made). m.count) r n e in v.1 ∙ ap Ok (IfOk-at_ok (λ m. m ≡ w.made) v.1 w.gives_it)
+
+          fields : List ℕ
+          fields = w.made.sheet.fields
+
+          after_is : after ≡ entries_in fields n ++ drop n before
+          after_is = h.entries ∙ ap (entries_after before) given ∙ ap (λ (k : ℕ). entries_in fields k ++ drop k before) counted.1
+
+          size : length (entries_in fields n) ≡ n
+          size = rows_length (entry_in fields) 0 n
+
+          there : entries_in fields w.made.count ≡ take n after
+          there = ap (entries_in fields) counted.1 ∙ sym (ap (take n) after_is ∙ take_at (entries_in fields n) (drop n before) n size)
 
           accepts : check_says d A truth (take n after) ≡ accepted
           accepts = check_passes d A truth (take n after) x q (rw there at (w.made_for.passes counted.0))
@@ -280,26 +314,45 @@ rules_room s = go (eqb s.loaded 0)
     go false r m = rules_small s.book.heads s.book.starts s.book.entries _ r m
 
 module _ (s : Shelf) (l : Lesson) (A : ℕ) (truth : Bool) where
-  pub check_exists : (es : List SheetEntry) → (r : declared.Judgement) × Checks s l A truth es r
-  check_exists es = let w = answer_for (check_says (meaning_of s l) A truth es) in (w.0, record { says = w.1 })
+  pub check_exists : (es : List SheetEntry) → (r : Result (Unit {0}) Refusal) × Checks s l A truth es r
+  unfolding check_says judged_in judgement judged_by in_order if_loaded
+  check_exists es =
+      let w = go (none_loaded (shelf_of s)) (in_book (shelf_of s) A) (ltb 0 (length es) && leb (length es) max_sheet)
+      (fault (its_rules (shelf_of s)) (in_force (own_of l)) (known_in (shelf_of s)) es) (among (kind_of truth) A es) in
+      (w.0, record { says = w.1 })
     where
-      answer_for : (j : Judgement) → (r : declared.Judgement) × (judgement_of r ≡ j)
-      answer_for accepted = (Accepted, refl)
-      answer_for (sheet.refused number index) = (Refused number index, refl)
+      go : (a i counted : Bool) (f : Fault) (claimed : Bool)
+          → (r : Result (Unit {0}) Refusal) × (judged r ≡ unless_turned (cond a (refused 20) (cond i (gives acknowledged) (refused 21))) (cond counted (judged_by f claimed) (sheet.refused 26 0)))
+      go true i counted f claimed = (Err refusal.NoBook, refl)
+      go false false counted f claimed = (Err refusal.NotInBook, refl)
+      go false true false f claimed = (Err refusal.EntryCount, refl)
+      go false true true (at j) claimed = (Err (refusal.EntryAt j), refl)
+      go false true true none true = (Ok tt, refl)
+      go false true true none false = (Err refusal.ClaimNotShown, refl)
 
-  pub make_exists : Sound (meaning_of s l) → (before : List SheetEntry) → (a : MakeAnswer) × (after : List SheetEntry) × Makes s l A truth before a after
-  make_exists sound before = go (in_order (shelf_of s) A (gives acknowledged)) refl
+  pub make_exists : Sound (meaning_of s l) → (before : List SheetEntry) → (r : Result Made Refusal) × (after : List SheetEntry) × Makes s l A truth before r after
+  unfolding make_says
+  make_exists sound before = let w = go (in_order (shelf_of s) A (gives acknowledged)) refl in (w.0, entries_after before w.0, record { makes = w.1; entries = refl })
     where
-      answer_for : (said : Said ℕ) → (a : MakeAnswer) × (make_said a ≡ said)
-      answer_for (gives n) = (making.Written n, refl)
-      answer_for (refused n) = (making.Refused n, refl)
+      -- 20 or 21 as a refusal
+      turned : (n : ℕ) → in_order (shelf_of s) A (gives acknowledged) ≡ refused n → (r : Result Made Refusal) × (make_told r ≡ refused n)
+      turned n e =
+          let w = order_told_lem (λ (m : Made). m.count) (shelf_of s) _ (refused_told) A in (w.0, w.1 ∙ sym (turned_so (shelf_of s) A n e _))
+        where
+          refused_told : Told (λ (m : Made). m.count) (refused 28)
+          refused_told = (Err refusal.ClaimNotShown, refl)
 
-      with_reply : (r : MakeReply) → MakesTable s l A truth (length before) r → (a : MakeAnswer) × (after : List SheetEntry) × Makes s l A truth before a after
-      with_reply r w = (r.answer, entries_after r.sheet.fields before (make_said r.answer), record { reply = r; makes = w; answers = refl; entries = refl })
+      answer_for : (m : Made) → (r : Result Made Refusal) × (make_told r ≡ make_says (known_in (shelf_of s)) (length before) m.found m.count) × IfOk r (λ n. n ≡ m)
+      answer_for m = by m.found (leb (2 * known_in (shelf_of s)) (length before))
+        where
+          by : (f t : Bool) → (r : Result Made Refusal) × (make_told r ≡ cond f (cond t (gives m.count) (refused 25)) (refused 28)) × IfOk r (λ n. n ≡ m)
+          by false t = (Err refusal.ClaimNotShown, refl, record {})
+          by true false = (Err refusal.TooShort, refl, record {})
+          by true true = (Ok m, refl, refl)
 
-      go : (said : Said Ack) → in_order (shelf_of s) A (gives acknowledged) ≡ said → (a : MakeAnswer) × (after : List SheetEntry) × Makes s l A truth before a after
-      go (refused n) e = with_reply (record { answer = making.Refused n; sheet = blank }) (record { unless = rw e refl })
+      go : (said : Said Ack) → in_order (shelf_of s) A (gives acknowledged) ≡ said → (r : Result Made Refusal) × MakesTable s l A truth (length before) r
+      go (refused n) e = let w = turned n e in (w.0, record { unless = rw e w.1 })
       go (gives x) e =
           let m = made_exists (its_rules (shelf_of s)) (in_force (own_of l)) (known_in (shelf_of s)) _ refl sound.few_names (λ B i. book_in_room (meaning_of s l) sound B (sound.facts_known B i)) (rules_room s) truth A in
-          let a = answer_for (make_says (known_in (shelf_of s)) (length before) m.0.found m.0.count) in
-          with_reply (record { answer = a.0; sheet = m.0.sheet }) (record { unless = rw e (record { made = m.0; made_for = m.1; says = a.1; table = refl }) })
+          let a = answer_for m.0 in
+          (a.0, record { unless = rw e (record { made = m.0; made_for = m.1; says = a.1; gives_it = a.2 }) })

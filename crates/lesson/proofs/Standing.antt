@@ -15,14 +15,13 @@ use Rattle.book.specs.declared.Book.{Book}
 use Rattle.book.proofs.Heads.{program_of_lem}
 use Rattle.lister.specs.Listing.{words_of, listing_by, listing_of}
 use Rattle.lister.proofs.Standing.{listing_by_lem, listing_stands}
+use Rattle.std.specs.Prelude.{Result, Ok, Err}
 use Rattle.lesson.specs.State.{BookState, loaded_with, Own, State, emptied, its_names, its_rules, in_force, program_in, in_book, listing_in, listing_from, changed}
 use Rattle.lesson.specs.Calls.{shelf_of, own_of, meaning_of, MarksOf, Standing, bytes_of, Begins, MarksAfter, ChangesTo, LessonAfter, Changes}
 use Rattle.lesson.specs.declared.Shelf.{Shelf}
 use Rattle.lesson.specs.declared.Lesson.{Lesson}
 use Rattle.lesson.specs.declared.Change.{Change}
-use Rattle.lesson.specs.declared.ChangeReply.{ChangeReply}
-use Rattle.lesson.specs.declared.ChangeAnswer.{ChangeAnswer}
-use Rattle.lesson.specs.declared.ChangeAnswer.TheVariants as change
+use Rattle.lesson.specs.declared.Refusal.{Refusal}
 use Rattle.lesson.proofs.Replies.{own_with}
 use Rattle.lesson.proofs.Meaning.{shelf_empty, shelf_loaded, loaded_is, program_is}
 use Rattle.lesson.proofs.Marks.{contradictory_at}
@@ -59,12 +58,12 @@ module _ (s : Shelf) (l : Lesson) (stands : Standing s l) where
       go (inl w) = rw (w.1, program_by_lem (shelf_of s) own (own_of l) w.0) stands
       go (inr w) = w.1
 
-  pub change_stands : (c : Change) (r : ChangeReply) → Changes s l c r → Standing s r.lesson
-  change_stands c r h = go r.answer h.leaves
+  pub change_stands : (c : Change) (r : Result (Unit {0}) Refusal) (m : Lesson) → Changes s l c r m → Standing s m
+  change_stands c r m h = go r h.leaves
     where
-      go : (a : ChangeAnswer) → LessonAfter s l (changed c (own_of l)) a r.lesson → Standing s r.lesson
-      go change.Done w = changed_stands (changed c (own_of l)) r.lesson w
-      go (change.Refused n) w = rw w stands
+      go : (r : Result (Unit {0}) Refusal) → LessonAfter s l (changed c (own_of l)) r m → Standing s m
+      go (Ok done) w = changed_stands (changed c (own_of l)) m w
+      go (Err e) w = rw w stands
 
   -- then the bytes that the listing call writes are the listing of documents 01 and 02
   pub bytes_stand : bytes_of s l ≡ listing_in (meaning_of s l)

@@ -11,7 +11,7 @@ use Rattle.wfsx.specs.Model.{Verdict}
 use Rattle.wfsx.specs.Trees.{Tree, answer}
 use Rattle.litset.specs.Words.{clash_in}
 use Rattle.fixpoint.specs.Result.{verdict_in}
-use Rattle.lesson.specs.State.{BookState, State, program_in, none_loaded, in_book, gives, refused, search_says, verdict_says, is_clash, model_says, where_loaded, listing_says}
+use Rattle.lesson.specs.State.{BookState, State, program_in, none_loaded, in_book, gives, refused, search_says, verdict_says, is_clash, model_says, listing_says}
 use Rattle.lesson.proofs.Order.{loaded_says, inside, given_inside, some_book}
 
 pub verdict_inside : (b : BookState) (T U C : Set) (A : ℕ) → A ∈ in_book b → verdict_says b T U C A ≡ cond (C A) (refused 24) (gives (verdict_in T U A))
@@ -31,10 +31,6 @@ module _ (b : BookState) (e : none_loaded b ≡ false) where
   pub model_loaded : (T : Set) → model_says b T ≡ gives (is_clash (clash_in T))
   unfolding model_says
   model_loaded T = loaded_says b _ e
-
-  pub part_loaded : {X : Type 0} (part else : X) → where_loaded b part else ≡ part
-  unfolding where_loaded
-  part_loaded part else = rw e refl
 
   module _ (bytes buffer : List ℕ) where
     pub listing_fits : length bytes ≤ length buffer → listing_says b bytes buffer ≡ gives (length bytes)

@@ -1,5 +1,5 @@
 -- What each call answers and leaves, for every shelf, lesson and argument.
-use Rattle.std.specs.Prelude.{◌≡◌, ◌⊎◌, Bool, true, false, cond, ℕ, List, eqb, length}
+use Rattle.std.specs.Prelude.{◌≡◌, ◌⊎◌, Bool, cond, ℕ, ◌++◌, List, drop, eqb, length, Result, Ok, Err, IfOk}
 use Rattle.wfsx.specs.Sets.{Set, ∅}
 use Rattle.wfsx.specs.Program.{Entry, Program}
 use Rattle.wfsx.specs.Model as wfsx
@@ -8,40 +8,27 @@ use Rattle.litset.specs.Words.{set_of}
 use Rattle.book.specs.Book.{names_of, rules_of, program_of}
 use Rattle.book.specs.declared.Book.{Book}
 use Rattle.fixpoint.specs.Result.{ModelOf, verdict_is}
+use Rattle.fixpoint.specs.declared.Verdict.{Verdict}
 use Rattle.reach.specs.Order.{order_table}
+use Rattle.reach.specs.declared.Order.{Order}
 use Rattle.lister.specs.declared.Marks.{Marks}
-use Rattle.sheet.specs.Answers.{judgement_of}
+use Rattle.sheet.specs.Sheet.{Judgement, accepted}
+use Rattle.sheet.specs.Sheet as sheet
+use Rattle.sheet.specs.Flat.{entries_in}
 use Rattle.sheet.specs.declared.SheetEntry.{SheetEntry}
-use Rattle.sheet.specs.declared.Judgement.{Judgement}
+use Rattle.sheet.specs.declared.Judgement as declared
+use Rattle.sheet.specs.declared.Judgement.TheVariants as judgement
 use Rattle.maker.specs.Result.{MadeFor}
 use Rattle.maker.specs.declared.Made.{Made}
-use Rattle.lesson.specs.State.{BookState, unloaded, loaded_with, Own, State, its_names, its_rules, in_force, program_in, Said, gives, refused, Ack, acknowledged, change_says, changed, search_says, contradictory_below, verdict_says, model_says, where_loaded, if_loaded, in_order, order_in, listing_from, listing_says, buffer_after, known_in, check_says, make_says, entries_after}
+use Rattle.lesson.specs.State.{BookState, unloaded, loaded_with, Own, State, its_names, its_rules, in_force, program_in, Said, gives, refused, number_of, told_by, told, Ack, acknowledged, told_done, change_says, changed, search_says, contradictory_below, verdict_says, model_says, if_loaded, in_order, order_in, listing_from, listing_says, buffer_after, known_in, check_says, make_says}
 use Rattle.lesson.specs.declared.Shelf.{Shelf}
 use Rattle.lesson.specs.declared.Lesson.{Lesson}
 use Rattle.lesson.specs.declared.Change.{Change}
-use Rattle.lesson.specs.declared.ChangeReply.{ChangeReply}
-use Rattle.lesson.specs.declared.ChangeAnswer.{ChangeAnswer}
-use Rattle.lesson.specs.declared.ChangeAnswer.TheVariants as change
-use Rattle.lesson.specs.declared.VerdictAnswer.{VerdictAnswer}
-use Rattle.lesson.specs.declared.VerdictAnswer.TheVariants as verdict
-use Rattle.lesson.specs.declared.SearchAnswer.{SearchAnswer}
-use Rattle.lesson.specs.declared.SearchAnswer.TheVariants as searched
-use Rattle.lesson.specs.declared.ModelReply.{ModelReply}
-use Rattle.lesson.specs.declared.ModelAnswer.{ModelAnswer}
-use Rattle.lesson.specs.declared.ModelAnswer.TheVariants as model
-use Rattle.lesson.specs.declared.OrderReply.{OrderReply}
-use Rattle.lesson.specs.declared.OrderAnswer.{OrderAnswer}
-use Rattle.lesson.specs.declared.OrderAnswer.TheVariants as order
-use Rattle.lesson.specs.declared.GroupsReply.{GroupsReply}
-use Rattle.lesson.specs.declared.ListingAnswer.{ListingAnswer}
-use Rattle.lesson.specs.declared.ListingAnswer.TheVariants as listing
-use Rattle.lesson.specs.declared.MakeAnswer.{MakeAnswer}
-use Rattle.lesson.specs.declared.MakeAnswer.TheVariants as making
-use Rattle.lesson.specs.declared.MakeReply.{MakeReply}
+use Rattle.lesson.specs.declared.Refusal.{Refusal}
+use Rattle.lesson.specs.declared.Refusal.TheVariants as refusal
+use Rattle.lesson.specs.declared.WholeModel.{WholeModel}
+use Rattle.lesson.specs.declared.ModelByGroups.{ModelByGroups}
 
--- ---- the meaning of shelf and lesson, whatever their bits
-
--- `loaded` 0 says that there is no book
 unfoldable pub shelf_of : Shelf → BookState
 shelf_of s = cond (eqb s.loaded 0) unloaded (loaded_with (names_of s.book) (rules_of s.book))
 
@@ -70,10 +57,6 @@ pub record MarksOf (n : ℕ) (P : Program) (m : Marks) : Type 0 where
 abbrev pub Standing : Shelf → Lesson → Type 0
 Standing s l = MarksOf (length (its_names (shelf_of s))) (program_in (meaning_of s l)) l.marks
 
--- the number under which a call is turned down, or 0
-abbrev pub number_says : ℕ → Said Ack
-number_says number = cond (eqb number 0) (gives acknowledged) (refused number)
-
 -- ---- the lesson that begins on a book
 
 -- nothing is put in, and the marks are those of the book
@@ -88,126 +71,146 @@ pub record Begins (book : Book) (l : Lesson) : Type 0 where
 abbrev pub MarksAfter : Lesson → Set → ℕ → Program → Marks → Type 0
 MarksAfter l F n P m = ((F ≡ in_force (own_of l)) × (m ≡ l.marks)) ⊎ ((F ≡ in_force (own_of l) → ⊥) × MarksOf n P m)
 
-abbrev pub change_said : ChangeAnswer → Said Ack
-change_said change.Done = gives acknowledged
-change_said (change.Refused number) = refused number
-
 -- the lesson m has this of its own, and its marks are up to date
 pub record ChangesTo (s : Shelf) (l : Lesson) (own : Own) (m : Lesson) : Type 0 where
   pub own_is : own_of m ≡ own
   pub marks_are : MarksAfter l (in_force own) (length (its_names (shelf_of s))) (program_in (record { book = shelf_of s; own = own })) m.marks
 
 -- an accepted call changes what the lesson has of its own, and a refused one leaves the lesson as it was
-abbrev pub LessonAfter : Shelf → Lesson → Own → ChangeAnswer → Lesson → Type 0
-LessonAfter s l own change.Done m = ChangesTo s l own m
-LessonAfter s l own (change.Refused number) m = m ≡ l
+abbrev pub LessonAfter : Shelf → Lesson → Own → Result (Unit {0}) Refusal → Lesson → Type 0
+LessonAfter s l own (Ok done) m = ChangesTo s l own m
+LessonAfter s l own (Err e) m = m ≡ l
 
-pub record Changes (s : Shelf) (l : Lesson) (c : Change) (r : ChangeReply) : Type 0 where
-  pub says : change_said r.answer ≡ change_says (meaning_of s l) c
-  pub leaves : LessonAfter s l (changed c (own_of l)) r.answer r.lesson
+-- the lesson l becomes m
+pub record Changes (s : Shelf) (l : Lesson) (c : Change) (r : Result (Unit {0}) Refusal) (m : Lesson) : Type 0 where
+  pub says : told_done r ≡ change_says (meaning_of s l) c
+  pub leaves : LessonAfter s l (changed c (own_of l)) r m
 
 -- ---- verdict, search, model
 
-abbrev pub verdict_said : VerdictAnswer → Said wfsx.Verdict
-verdict_said (verdict.Given v) = gives (verdict_is v)
-verdict_said (verdict.Refused number) = refused number
+pub record GivesVerdict (s : Shelf) (l : Lesson) (A : ℕ) (r : Result Verdict Refusal) : Type 0 where
+  pub says : told_by verdict_is r ≡ verdict_says (shelf_of s) (truths_of l) (nonfalse_of l) (contradictory_of l) A
 
-pub record GivesVerdict (s : Shelf) (l : Lesson) (A : ℕ) (r : VerdictAnswer) : Type 0 where
-  pub says : verdict_said r ≡ verdict_says (shelf_of s) (truths_of l) (nonfalse_of l) (contradictory_of l) A
-
-abbrev pub search_said : SearchAnswer → Said Bool
-search_said (searched.Given holds) = gives holds
-search_said (searched.Refused number) = refused number
-
-pub record Searches (s : Shelf) (l : Lesson) (A : ℕ) (k : trees.Tree) (question : Entry) (r : SearchAnswer) : Type 0 where
-  pub says : search_said r ≡ search_says (meaning_of s l) A k question
+pub record Searches (s : Shelf) (l : Lesson) (A : ℕ) (k : trees.Tree) (question : Entry) (r : Result Bool Refusal) : Type 0 where
+  pub says : told r ≡ search_says (meaning_of s l) A k question
 
 -- whether the lesson is contradictory
-abbrev pub model_said : ModelAnswer → Said Bool
-model_said model.Consistent = gives false
-model_said model.Contradictory = gives true
-model_said (model.Refused number) = refused number
+abbrev pub model_told : Result WholeModel Refusal → Said Bool
+model_told r = told_by (λ (m : WholeModel). m.contradictory) r
 
-pub record GivesModel (s : Shelf) (l : Lesson) (r : ModelReply) : Type 0 where
-  pub says : model_said r.answer ≡ model_says (shelf_of s) (truths_of l)
-  pub truths : set_of r.model.truths.words ≡ where_loaded (shelf_of s) (truths_of l) ∅
-  pub nonfalse : set_of r.model.nonfalse.words ≡ where_loaded (shelf_of s) (nonfalse_of l) ∅
-  pub rounds : r.model.rounds ≡ where_loaded (shelf_of s) l.marks.model.rounds 0
+-- the model that stands
+pub record ThatStands (l : Lesson) (m : WholeModel) : Type 0 where
+  pub truths : set_of m.model.truths.words ≡ truths_of l
+  pub nonfalse : set_of m.model.nonfalse.words ≡ nonfalse_of l
+  pub rounds : m.model.rounds ≡ l.marks.model.rounds
+
+pub record GivesModel (s : Shelf) (l : Lesson) (r : Result WholeModel Refusal) : Type 0 where
+  pub says : model_told r ≡ model_says (shelf_of s) (truths_of l)
+  pub gives_it : IfOk r (ThatStands l)
 
 -- ---- working order, model by groups
 
-abbrev pub order_said : OrderAnswer → Said Ack
-order_said order.Given = gives acknowledged
-order_said (order.Refused number) = refused number
+abbrev pub order_told : Result Order Refusal → Said Ack
+order_told r = told_by (λ (table : Order). acknowledged) r
 
--- the table of the names in working order; a shelf without a book has none
-pub record GivesOrder (s : Shelf) (r : OrderReply) : Type 0 where
-  pub says : order_said r.answer ≡ if_loaded (shelf_of s) (gives acknowledged)
-  pub table : r.order ≡ order_table (order_in (shelf_of s))
+-- the table of the names in working order
+pub record GivesOrder (s : Shelf) (r : Result Order Refusal) : Type 0 where
+  pub says : order_told r ≡ if_loaded (shelf_of s) (gives acknowledged)
+  pub gives_it : IfOk r (λ table. table ≡ order_table (order_in (shelf_of s)))
+
+-- whether the lesson is contradictory
+abbrev pub groups_told : Result ModelByGroups Refusal → Said Bool
+groups_told r = told_by (λ (m : ModelByGroups). m.contradictory) r
+
+-- M and N of this program
+pub record ValuesOf (P : Program) (m : ModelByGroups) : Type 0 where
+  pub truths : set_of m.values.truths.words ≡ wfsx.M P
+  pub nonfalse : set_of m.values.nonfalse.words ≡ wfsx.N P
 
 -- M and N of the lesson's program, whatever sets stand
-pub record GivesGroups (s : Shelf) (l : Lesson) (r : GroupsReply) : Type 0 where
-  pub says : model_said r.answer ≡ model_says (shelf_of s) (wfsx.M (program_in (meaning_of s l)))
-  pub truths : set_of r.values.truths.words ≡ where_loaded (shelf_of s) (wfsx.M (program_in (meaning_of s l))) ∅
-  pub nonfalse : set_of r.values.nonfalse.words ≡ where_loaded (shelf_of s) (wfsx.N (program_in (meaning_of s l))) ∅
+pub record GivesGroups (s : Shelf) (l : Lesson) (r : Result ModelByGroups Refusal) : Type 0 where
+  pub says : groups_told r ≡ model_says (shelf_of s) (wfsx.M (program_in (meaning_of s l)))
+  pub gives_it : IfOk r (ValuesOf (program_in (meaning_of s l)))
 
 -- ---- listing
-
-abbrev pub listing_said : ListingAnswer → Said ℕ
-listing_said (listing.Length n) = gives n
-listing_said (listing.Refused number) = refused number
 
 -- the bytes that the listing call writes
 abbrev pub bytes_of : Shelf → Lesson → List ℕ
 bytes_of s l = listing_from (meaning_of s l) (truths_of l) (nonfalse_of l) (contradictory_of l) l.marks.model.rounds
 
 -- `before` and `after` are the bytes of the lent buffer
-pub record Lists (s : Shelf) (l : Lesson) (before : List ℕ) (r : ListingAnswer) (after : List ℕ) : Type 0 where
-  pub says : listing_said r ≡ listing_says (shelf_of s) (bytes_of s l) before
-  pub buffer : after ≡ buffer_after (bytes_of s l) before (listing_said r)
+pub record Lists (s : Shelf) (l : Lesson) (before : List ℕ) (r : Result ℕ Refusal) (after : List ℕ) : Type 0 where
+  pub says : told r ≡ listing_says (shelf_of s) (bytes_of s l) before
+  pub buffer : after ≡ buffer_after (bytes_of s l) before (told r)
 
 -- ---- preview
 
--- What follows the change of a copy (document 02, A.8): where the change is turned down the answer has its number and no byte is written, and otherwise
+-- What follows the change of a copy (document 02, A.8): where the change is turned down the answer is its refusal and no byte is written, and otherwise
 -- answer and bytes are those of the listing call for the copy m.
-abbrev pub FollowedBy : Shelf → ChangeAnswer → Lesson → List ℕ → ListingAnswer → List ℕ → Type 0
-FollowedBy s change.Done m before r after = Lists s m before r after
-FollowedBy s (change.Refused number) m before r after = (r ≡ listing.Refused number) × (after ≡ before)
+abbrev pub FollowedBy : Shelf → Result (Unit {0}) Refusal → Lesson → List ℕ → Result ℕ Refusal → List ℕ → Type 0
+FollowedBy s (Ok done) m before r after = Lists s m before r after
+FollowedBy s (Err e) m before r after = (r ≡ Err e) × (after ≡ before)
 
 -- the change of a copy of the lesson, and the listing of that copy
-pub record Previews (s : Shelf) (l : Lesson) (c : Change) (before : List ℕ) (r : ListingAnswer) (after : List ℕ) : Type 0 where
-  pub copy : ChangeReply
-  pub changes : Changes s l c copy
-  pub followed : FollowedBy s copy.answer copy.lesson before r after
+pub record Previews (s : Shelf) (l : Lesson) (c : Change) (before : List ℕ) (r : Result ℕ Refusal) (after : List ℕ) : Type 0 where
+  pub answer : Result (Unit {0}) Refusal
+  pub copy : Lesson
+  pub changes : Changes s l c answer copy
+  pub followed : FollowedBy s answer copy before r after
 
 -- ---- proof sheets
 
--- the check of some entries for the claim that A is true, or that it is false
-pub record Checks (s : Shelf) (l : Lesson) (A : ℕ) (truth : Bool) (es : List SheetEntry) (r : Judgement) : Type 0 where
-  pub says : judgement_of r ≡ check_says (meaning_of s l) A truth es
+-- the index of the entry that doesn't follow; 0 beside another refusal
+abbrev pub index_of : Refusal → ℕ
+index_of refusal.NoBook = 0
+index_of refusal.NotInBook = 0
+index_of refusal.AlreadyPutIn = 0
+index_of refusal.NotPutIn = 0
+index_of refusal.ContradictoryName = 0
+index_of refusal.TooShort = 0
+index_of refusal.EntryCount = 0
+index_of (refusal.EntryAt index) = index
+index_of refusal.ClaimNotShown = 0
 
-abbrev pub make_said : MakeAnswer → Said ℕ
-make_said (making.Written n) = gives n
-make_said (making.Refused number) = refused number
+-- an answer as a judgement
+abbrev pub judged : Result (Unit {0}) Refusal → Judgement
+judged (Ok done) = accepted
+judged (Err e) = sheet.refused (number_of e) (index_of e)
+
+-- the refusals of the check of a sheet: 26, 27 with its index, 28
+abbrev pub IsOfCheck : declared.Judgement → Type 0
+IsOfCheck judgement.Accepted = Unit {0}
+IsOfCheck (judgement.Refused number index) = (number ≡ 27) ⊎ (((number ≡ 26) ⊎ (number ≡ 28)) × (index ≡ 0))
+
+-- the check of some entries for the claim that A is true, or that it is false
+pub record Checks (s : Shelf) (l : Lesson) (A : ℕ) (truth : Bool) (es : List SheetEntry) (r : Result (Unit {0}) Refusal) : Type 0 where
+  pub says : judged r ≡ check_says (meaning_of s l) A truth es
+
+-- how many entries there are
+abbrev pub make_told : Result Made Refusal → Said ℕ
+make_told r = told_by (λ (m : Made). m.count) r
 
 -- What the maker makes for a lent run with room for so many entries. Which sheet it is, is the program's choice; `MadeFor` says what all choices share.
-pub record MakesSheet (s : Shelf) (l : Lesson) (A : ℕ) (truth : Bool) (room : ℕ) (r : MakeReply) : Type 0 where
+pub record MakesSheet (s : Shelf) (l : Lesson) (A : ℕ) (truth : Bool) (room : ℕ) (r : Result Made Refusal) : Type 0 where
   pub made : Made
   pub made_for : MadeFor (its_rules (shelf_of s)) (in_force (own_of l)) (known_in (shelf_of s)) truth A made
-  pub says : make_said r.answer ≡ make_says (known_in (shelf_of s)) room made.found made.count
-  pub table : r.sheet ≡ made.sheet
+  pub says : make_told r ≡ make_says (known_in (shelf_of s)) room made.found made.count
+  pub gives_it : IfOk r (λ m. m ≡ made)
 
 -- 20 and 21 come first
-abbrev pub MakesUnless : Said Ack → Shelf → Lesson → ℕ → Bool → ℕ → MakeReply → Type 0
+abbrev pub MakesUnless : Said Ack → Shelf → Lesson → ℕ → Bool → ℕ → Result Made Refusal → Type 0
 MakesUnless (gives x) s l A truth room r = MakesSheet s l A truth room r
-MakesUnless (refused number) s l A truth room r = make_said r.answer ≡ refused number
+MakesUnless (refused number) s l A truth room r = make_told r ≡ refused number
 
-pub record MakesTable (s : Shelf) (l : Lesson) (A : ℕ) (truth : Bool) (room : ℕ) (r : MakeReply) : Type 0 where
+pub record MakesTable (s : Shelf) (l : Lesson) (A : ℕ) (truth : Bool) (room : ℕ) (r : Result Made Refusal) : Type 0 where
   pub unless : MakesUnless (in_order (shelf_of s) A (gives acknowledged)) s l A truth room r
 
+-- the lent entries afterwards: those after the entries that were written stay, and a refused call changes none
+abbrev pub entries_after : List SheetEntry → Result Made Refusal → List SheetEntry
+entries_after before (Ok m) = entries_in m.sheet.fields m.count ++ drop m.count before
+entries_after before (Err e) = before
+
 -- the maker on a lent run: `before` and `after` are its entries
-pub record Makes (s : Shelf) (l : Lesson) (A : ℕ) (truth : Bool) (before : List SheetEntry) (a : MakeAnswer) (after : List SheetEntry) : Type 0 where
-  pub reply : MakeReply
-  pub makes : MakesTable s l A truth (length before) reply
-  pub answers : a ≡ reply.answer
-  pub entries : after ≡ entries_after reply.sheet.fields before (make_said a)
+pub record Makes (s : Shelf) (l : Lesson) (A : ℕ) (truth : Bool) (before : List SheetEntry) (r : Result Made Refusal) (after : List SheetEntry) : Type 0 where
+  pub makes : MakesTable s l A truth (length before) r
+  pub entries : after ≡ entries_after before r

@@ -1,6 +1,6 @@
 -- A book or none and the literals put in, as document 01 speaks of them, and what a call answers over them ("When a call is turned down by the state",
 -- "From rules to a model", "From a question to its trees").
-use Rattle.std.specs.Prelude.{Bool, true, false, cond, ◌&&◌, List, [], ◌++◌, ℕ, ◌*◌, leb, ltb, length, drop}
+use Rattle.std.specs.Prelude.{Bool, true, false, cond, ◌&&◌, List, [], ◌++◌, ℕ, ◌*◌, leb, ltb, length, drop, Result, Ok, Err}
 use Rattle.wfsx.specs.Sets.{Set, ∅, add}
 use Rattle.wfsx.specs.Program.{Entry, Rule, Program}
 use Rattle.wfsx.specs.Model.{Contradictory, Verdict}
@@ -15,11 +15,12 @@ use Rattle.book.specs.Book.{program}
 use Rattle.fixpoint.specs.Result.{verdict_in}
 use Rattle.sheet.specs.Sheet.{Judgement, accepted, judgement}
 use Rattle.sheet.specs.Sheet as sheet
-use Rattle.sheet.specs.Flat.{entries_in}
 use Rattle.sheet.specs.declared.SheetEntry.{SheetEntry}
 use Rattle.lister.specs.Listing.{listing_of, listing_by_sets}
 use Rattle.lesson.specs.declared.Change.{Change}
 use Rattle.lesson.specs.declared.Change.TheVariants.{PutIn, TakeOut}
+use Rattle.lesson.specs.declared.Refusal.{Refusal}
+use Rattle.lesson.specs.declared.Refusal.TheVariants as refusal
 
 -- no book, or the names and rules of one
 pub data BookState : Type 0 where
@@ -69,6 +70,27 @@ pub data Said (X : Type 0) : Type 0 where
   gives : X → Said X
   refused : ℕ → Said X
 
+-- the number of a refusal (Conditions.antt has its words)
+abbrev pub number_of : Refusal → ℕ
+number_of refusal.NoBook = 20
+number_of refusal.NotInBook = 21
+number_of refusal.AlreadyPutIn = 22
+number_of refusal.NotPutIn = 23
+number_of refusal.ContradictoryName = 24
+number_of refusal.TooShort = 25
+number_of refusal.EntryCount = 26
+number_of (refusal.EntryAt index) = 27
+number_of refusal.ClaimNotShown = 28
+
+-- what a result tells in these numbers, where `read` says what is asked of its value
+abbrev pub told_by : {T X : Type 0} → (T → X) → Result T Refusal → Said X
+told_by read (Ok value) = gives (read value)
+told_by read (Err e) = refused (number_of e)
+
+-- the value itself is what was asked for
+abbrev pub told : {X : Type 0} → Result X Refusal → Said X
+told r = told_by (λ x. x) r
+
 -- 20: no book is loaded
 abbrev pub none_loaded : BookState → Bool
 none_loaded unloaded = true
@@ -90,6 +112,9 @@ in_order b A said = if_loaded b (cond (in_book b A) said (refused 21))
 -- they give nothing but that it was done
 pub data Ack : Type 0 where
   acknowledged : Ack
+
+abbrev pub told_done : Result (Unit {0}) Refusal → Said Ack
+told_done r = told_by (λ done. acknowledged) r
 
 abbrev pub its_literal : Change → ℕ
 its_literal (PutIn A) = A
@@ -144,10 +169,6 @@ is_clash (Name n) = true
 unfoldable pub model_says : BookState → Set → Said Bool
 model_says b T = if_loaded b (gives (is_clash (clash_in T)))
 
--- a part of the model where there is a book, and what is given in its place where there is none
-unfoldable pub where_loaded : {X : Type 0} → BookState → X → X → X
-where_loaded b part else = cond (none_loaded b) else part
-
 -- ---- working order
 
 -- the groups of the book in working order (document 02, A.5): the names below their count, by the book's rules alone
@@ -195,8 +216,3 @@ check_says d A truth es = unless_turned (in_order d.book A (gives acknowledged))
 -- The maker answers how many entries it wrote. 28: no sheet was found for the claim; 25: the lent run is shorter than two entries for each literal
 unfoldable pub make_says : (known room : ℕ) → (found : Bool) → (count : ℕ) → Said ℕ
 make_says known room found count = cond found (cond (leb (2 * known) room) (gives count) (refused 25)) (refused 28)
-
--- the lent entries afterwards: those after the entries that were written stay, and a refused call changes none
-abbrev pub entries_after : (fields : List ℕ) → List SheetEntry → Said ℕ → List SheetEntry
-entries_after fields before (gives n) = entries_in fields n ++ drop n before
-entries_after fields before (refused number) = before

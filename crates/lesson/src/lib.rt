@@ -1,25 +1,26 @@
-// The calls on a lesson: each is a function of the shelf with the book, of the lesson beside it and of its arguments, whatever their bits. A call that
-// changes the facts returns its answer and the lesson, and a refused one the lesson that it was given; a call that only reads returns its answer alone.
+// The calls on a lesson: each is a function of the shelf with the book, of the lesson beside it and of its arguments, whatever their bits. A change writes the
+// lesson, and a refused one leaves it as it was; a call that only reads returns its answer alone.
 #![tactic(auto)]
 
-ghost use Rattle.std.specs.Prelude.{◌≡◌, ◌*◌, ◌≤◌, ◌<◌, length};
+ghost use Rattle.std.specs.Prelude.{◌≡◌, ◌<◌, length};
 ghost use Rattle.sheet.specs.Flat.{entries_in};
+ghost use Rattle.sheet.specs.Answers.{judgement_of};
 ghost use Rattle.litset.specs.Words.{capacity, set_of, clash_in};
-ghost use Rattle.book.specs.Limits.{max_names};
 ghost use Rattle.book.specs.Book.{names_of, program_of};
 ghost use Rattle.search.specs.Questions.{tree_of, question_of};
-ghost use Rattle.lesson.specs.State.{acknowledged, gives, in_order, in_force, its_literal, change_fits, change_says, changed_set, is_clash, make_says};
-ghost use Rattle.lesson.specs.Calls.{shelf_of, own_of, meaning_of, number_says, Begins, MarksOf, MarksAfter, Changes, GivesVerdict, Searches, model_said, GivesModel, GivesOrder, GivesGroups, Lists, Previews, Checks, make_said, MakesTable};
+ghost use Rattle.lesson.specs.State.{acknowledged, gives, if_loaded, in_order, in_force, its_literal, change_fits, change_says, changed_set, is_clash, number_of, told_done};
+ghost use Rattle.lesson.specs.Calls.{shelf_of, own_of, meaning_of, Begins, MarksOf, MarksAfter, Changes, GivesVerdict, Searches, GivesModel, GivesOrder, GivesGroups, Lists, Previews, judged, IsOfCheck, Checks, MakesTable};
 
 use book::Book;
 use fixpoint::{Model, Values, Verdict};
 use lister::{Marks, Written};
 use litset::{Clash, LitSet};
+use maker::Made;
 use reach::Order;
 use search::Tree;
 use sheet::{Judgement, Sheet};
 
-// The book, or none: `loaded` 0 says that there is none.
+// The book, or none: `loaded` 0 says that there is none. (C passes the shelf, so it is no Option.)
 #[repr(C)]
 #[derive(Clone, Copy)]
 pub struct Shelf {
@@ -43,98 +44,79 @@ pub enum Change {
     TakeOut(usize),
 }
 
+// M, N and the rounds, and whether the lesson is contradictory.
 #[derive(Clone, Copy)]
-pub enum ChangeAnswer {
-    Done,
-    Refused(u8),
-}
-
-#[derive(Clone, Copy)]
-pub struct ChangeReply {
-    pub answer: ChangeAnswer,
-    pub lesson: Lesson,
-}
-
-#[derive(Clone, Copy)]
-pub enum VerdictAnswer {
-    Given(Verdict),
-    Refused(u8),
-}
-
-#[derive(Clone, Copy)]
-pub enum SearchAnswer {
-    Given(bool),
-    Refused(u8),
-}
-
-#[derive(Clone, Copy)]
-pub enum ModelAnswer {
-    Consistent,
-    Contradictory,
-    Refused(u8),
-}
-
-// M, N and the rounds. Where the call is refused the sets are empty and the rounds 0.
-#[derive(Clone, Copy)]
-pub struct ModelReply {
-    pub answer: ModelAnswer,
+pub struct WholeModel {
     pub model: Model,
+    pub contradictory: bool,
 }
 
+// M and N, worked out group by group, and whether the lesson is contradictory.
 #[derive(Clone, Copy)]
-pub enum OrderAnswer {
-    Given,
-    Refused(u8),
-}
-
-// The names in working order. Where the call is refused there are none.
-#[derive(Clone, Copy)]
-pub struct OrderReply {
-    pub answer: OrderAnswer,
-    pub order: Order,
-}
-
-// M and N, worked out group by group. Where the call is refused they are empty.
-#[derive(Clone, Copy)]
-pub struct GroupsReply {
-    pub answer: ModelAnswer,
+pub struct ModelByGroups {
     pub values: Values,
+    pub contradictory: bool,
 }
 
-#[derive(Clone, Copy)]
-pub enum ListingAnswer {
-    Length(usize),
-    Refused(u8),
+// Why a call is turned down; specs/Conditions.antt has the condition of each for each call.
+#[derive(Clone, Copy, Debug, PartialEq, Eq)]
+pub enum Refusal {
+    // No book is loaded.
+    NoBook,
+    // The literal is none of the book's.
+    NotInBook,
+    // The literal that is to be put in is put in now.
+    AlreadyPutIn,
+    // The literal that is to be taken out isn't put in now.
+    NotPutIn,
+    // The literal's name is contradictory.
+    ContradictoryName,
+    // The lent buffer or run is too short.
+    TooShort,
+    // The sheet has no entries, or more than a sheet may have.
+    EntryCount,
+    // The entry at this index doesn't follow.
+    EntryAt(usize),
+    // The claim isn't shown by the sheet, or none can show it.
+    ClaimNotShown,
 }
 
-#[derive(Clone, Copy)]
-pub enum MakeAnswer {
-    Written(usize),
-    Refused(u8),
-}
-
-// A sheet in a table, and how many entries of it are to be written. Where the call is refused none is.
-#[derive(Clone, Copy)]
-pub struct MakeReply {
-    pub answer: MakeAnswer,
-    pub sheet: Sheet,
+impl Refusal {
+    // Document 01's number, and document 02's for 24 to 28.
+    pub fn number(self) -> u8
+        ensures { result ≡ number_of self }
+    {
+        match self {
+            Refusal::NoBook => 20,
+            Refusal::NotInBook => 21,
+            Refusal::AlreadyPutIn => 22,
+            Refusal::NotPutIn => 23,
+            Refusal::ContradictoryName => 24,
+            Refusal::TooShort => 25,
+            Refusal::EntryCount => 26,
+            Refusal::EntryAt(_) => 27,
+            Refusal::ClaimNotShown => 28,
+        }
+    }
 }
 
 // ---- the lesson
 
 // The facts in force: those put in.
-fn in_force(l: Lesson) -> LitSet
-    ensures { set_of result.words ≡ in_force (own_of l) }
+#[tactic(auto, using(crate::proofs::Replies::force_is))]
+fn in_force(l: &Lesson) -> LitSet
+    ensures { set_of result.words ≡ in_force (own_of l.now) }
 {
     l.facts
 }
 
 // The marks of a book with these facts in force.
-fn marks_of(book: Book, facts: LitSet) -> Marks
-    ensures { MarksOf (length (names_of book)) (program_of book (set_of facts.words)) result }
+#[tactic(auto, using(crate::proofs::Marks::marks_are))]
+fn marks_of(book: &Book, facts: LitSet) -> Marks
+    ensures { MarksOf (length (names_of book.now)) (program_of book.now (set_of facts.words)) result }
 {
-    let model = fixpoint::model_of(book, facts);
-    let contradictory = reach::reaching_both(book, model.truths);
+    let model = fixpoint::model_of(*book, facts);
+    let contradictory = reach::reaching_both(*book, model.truths);
     Marks {
         model,
         contradictory,
@@ -142,8 +124,8 @@ fn marks_of(book: Book, facts: LitSet) -> Marks
 }
 
 // The lesson that begins on a book: no fact is put in.
-pub fn begin(book: Book) -> Lesson
-    ensures { Begins book result }
+pub fn begin(book: &Book) -> Lesson
+    ensures { Begins book.now result }
 {
     let facts = litset::empty();
     let marks = marks_of(book, facts);
@@ -151,8 +133,8 @@ pub fn begin(book: Book) -> Lesson
 }
 
 // The marks of a book with these facts in force, for a lesson made from l: they are worked out only where these are others than those of l.
-fn marks_with(book: Book, l: Lesson, facts: LitSet) -> Marks
-    ensures { MarksAfter l (set_of facts.words) (length (names_of book)) (program_of book (set_of facts.words)) result }
+fn marks_with(book: &Book, l: &Lesson, facts: LitSet) -> Marks
+    ensures { MarksAfter l.now (set_of facts.words) (length (names_of book.now)) (program_of book.now (set_of facts.words)) result }
 {
     let before = in_force(l);
     if litset::equal(facts, before) {
@@ -161,18 +143,28 @@ fn marks_with(book: Book, l: Lesson, facts: LitSet) -> Marks
     marks_of(book, facts)
 }
 
-// 20 or 21, or 0 where neither is met.
-fn state_refusal(s: Shelf, literal: usize) -> u8
-    ensures { number_says result ≡ in_order (shelf_of s) literal (gives acknowledged) }
+// The call needs a book.
+#[tactic(auto, using(crate::proofs::Replies::shelf_20, crate::proofs::Replies::shelf_given))]
+fn check_loaded(s: &Shelf) -> Result<(), Refusal>
+    ensures { told_done result ≡ if_loaded (shelf_of s.now) (gives acknowledged) }
 {
     if s.loaded == 0 {
-        return 20;
+        return Err(Refusal::NoBook);
     }
+    Ok(())
+}
+
+// The call needs a book and a literal of it.
+#[tactic(auto, using(crate::proofs::Replies::literal_20, crate::proofs::Replies::literal_21, crate::proofs::Replies::literal_given))]
+fn check_literal(s: &Shelf, literal: usize) -> Result<(), Refusal>
+    ensures { told_done result ≡ in_order (shelf_of s.now) literal (gives acknowledged) }
+{
+    check_loaded(s)?;
     let names = book::name_count(s.book);
     if 2 * names <= literal {
-        return 21;
+        return Err(Refusal::NotInBook);
     }
-    0
+    Ok(())
 }
 
 // ---- putting in and taking out
@@ -186,29 +178,29 @@ fn literal_of(change: Change) -> usize
     }
 }
 
-// 22 or 23, by whether the literal is put in now, or 0 where neither is met.
-fn change_fits(change: Change, now_in: bool) -> u8
-    ensures { number_says result ≡ change_fits change now_in }
+// Whether a change fits, by whether its literal is put in now.
+fn check_fits(change: Change, now_in: bool) -> Result<(), Refusal>
+    ensures { told_done result ≡ change_fits change now_in }
 {
-    match change {
-        Change::PutIn(_) => if now_in { 22 } else { 0 },
-        Change::TakeOut(_) => if now_in { 0 } else { 23 },
+    match (change, now_in) {
+        (Change::PutIn(_), true) => Err(Refusal::AlreadyPutIn),
+        (Change::TakeOut(_), false) => Err(Refusal::NotPutIn),
+        _ => Ok(()),
     }
 }
 
-// The number that turns a change down, or 0.
-fn change_refusal(s: Shelf, l: Lesson, change: Change) -> u8
-    ensures { number_says result ≡ change_says (meaning_of s l) change }
+// Whether a change may be made.
+#[tactic(auto, using(crate::proofs::Replies::change_turned, crate::proofs::Replies::change_fitting))]
+fn check_change(s: &Shelf, l: &Lesson, change: Change) -> Result<(), Refusal>
+    ensures { told_done result ≡ change_says (meaning_of s.now l.now) change }
 {
     let literal = literal_of(change);
-    let number = state_refusal(s, literal);
-    if number != 0 {
-        return number;
-    }
-    change_fits(change, litset::contains(l.facts, literal))
+    check_literal(s, literal)?;
+    check_fits(change, litset::contains(l.facts, literal))
 }
 
 // The facts put in, after a change.
+#[tactic(auto, using(crate::proofs::Replies::taken_out_set))]
 fn facts_after(facts: LitSet, change: Change) -> LitSet
     requires { its_literal change < capacity }
     ensures { set_of result.words ≡ changed_set change (set_of facts.words) }
@@ -220,214 +212,178 @@ fn facts_after(facts: LitSet, change: Change) -> LitSet
 }
 
 // Puts a literal in, or takes it out.
-pub fn change_facts(s: Shelf, l: Lesson, change: Change) -> ChangeReply
-    ensures { Changes s l change result }
+#[tactic(auto, using(crate::proofs::Replies::change_refused, crate::proofs::Replies::change_room))]
+pub fn change_facts(s: &Shelf, l: &mut Lesson, change: Change) -> Result<(), Refusal>
+    ensures { Changes s.now l.old change result l.new }
 {
-    let number = change_refusal(s, l, change);
-    if number != 0 {
-        return ChangeReply {
-            answer: ChangeAnswer::Refused(number),
-            lesson: l,
-        };
-    }
-    let facts = facts_after(l.facts, change);
-    let mut m = l;
-    m.facts = facts;
-    let marks = marks_with(s.book, l, in_force(m));
-    m.marks = marks;
-    ChangeReply {
-        answer: ChangeAnswer::Done,
-        lesson: m,
-    }
+    check_change(s, l, change)?;
+    let mut after = *l;
+    after.facts = facts_after(l.facts, change);
+    after.marks = marks_with(&s.book, l, in_force(&after));
+    *l = after;
+    Ok(())
 }
 
 // ---- verdict, search, model
 
 // The verdict of a literal.
-pub fn verdict(s: Shelf, l: Lesson, literal: usize) -> VerdictAnswer
-    ensures { GivesVerdict s l literal result }
+#[tactic(auto, using(crate::proofs::Replies::verdict_state, crate::proofs::Replies::verdict_24, crate::proofs::Replies::verdict_given))]
+pub fn verdict(s: &Shelf, l: &Lesson, literal: usize) -> Result<Verdict, Refusal>
+    ensures { GivesVerdict s.now l.now literal result }
 {
-    let number = state_refusal(s, literal);
-    if number != 0 {
-        return VerdictAnswer::Refused(number);
-    }
+    check_literal(s, literal)?;
     if litset::contains(l.marks.contradictory, literal) {
-        return VerdictAnswer::Refused(24);
+        return Err(Refusal::ContradictoryName);
     }
-    VerdictAnswer::Given(fixpoint::verdict_of(l.marks.model, literal))
+    Ok(fixpoint::verdict_of(l.marks.model, literal))
 }
 
 // Whether the literal, or `not` of it where `default` says so, has a tree of this kind.
-pub fn search(s: Shelf, l: Lesson, literal: usize, default: bool, tree: Tree) -> SearchAnswer
-    ensures { Searches s l literal (tree_of tree) (question_of literal default) result }
+#[tactic(auto, using(crate::proofs::Replies::search_state, crate::proofs::Replies::search_given))]
+pub fn search(
+    s: &Shelf,
+    l: &Lesson,
+    literal: usize,
+    default: bool,
+    tree: Tree,
+) -> Result<bool, Refusal>
+    ensures { Searches s.now l.now literal (tree_of tree) (question_of literal default) result }
 {
-    let number = state_refusal(s, literal);
-    if number != 0 {
-        return SearchAnswer::Refused(number);
-    }
+    check_literal(s, literal)?;
     let holds = search::search(s.book, in_force(l), literal, default, tree);
-    SearchAnswer::Given(holds)
+    Ok(holds)
 }
 
 // Whether a set that stands for M is that of a contradictory lesson.
-fn consistency(truths: LitSet) -> ModelAnswer
-    ensures { model_said result ≡ gives (is_clash (clash_in (set_of truths.words))) }
+fn is_contradictory(truths: LitSet) -> bool
+    ensures { result ≡ is_clash (clash_in (set_of truths.words)) }
 {
     match litset::lowest_both(truths) {
-        Clash::Name(_) => ModelAnswer::Contradictory,
-        Clash::None => ModelAnswer::Consistent,
+        Clash::Name(_) => true,
+        Clash::None => false,
     }
 }
 
 // M, N, the rounds, and whether the lesson is contradictory.
-pub fn model(s: Shelf, l: Lesson) -> ModelReply
-    ensures { GivesModel s l result }
+#[tactic(auto, using(crate::proofs::Replies::model_state, crate::proofs::Replies::model_given))]
+pub fn model(s: &Shelf, l: &Lesson) -> Result<WholeModel, Refusal>
+    ensures { GivesModel s.now l.now result }
 {
-    if s.loaded == 0 {
-        return ModelReply {
-            answer: ModelAnswer::Refused(20),
-            model: Model {
-                truths: litset::empty(),
-                nonfalse: litset::empty(),
-                rounds: 0,
-            },
-        };
-    }
+    check_loaded(s)?; // Without a book nothing stands.
     let model = l.marks.model;
-    ModelReply {
-        answer: consistency(model.truths),
+    let contradictory = is_contradictory(model.truths);
+    Ok(WholeModel {
         model,
-    }
+        contradictory,
+    })
 }
 
 // ---- working order, model by groups
 
 // The names of the book in working order. Facts alter nothing of it, so it has no lesson.
-pub fn working_order(s: Shelf) -> OrderReply
-    ensures { GivesOrder s result }
+#[tactic(auto, using(crate::proofs::Replies::order_state, crate::proofs::Replies::order_given))]
+pub fn working_order(s: &Shelf) -> Result<Order, Refusal>
+    ensures { GivesOrder s.now result }
 {
-    if s.loaded == 0 {
-        return OrderReply {
-            answer: OrderAnswer::Refused(20),
-            order: Order {
-                names: 0,
-                groups: 0,
-                name: [0u16; book::MAX_NAMES],
-                group: [0u16; book::MAX_NAMES],
-            },
-        };
-    }
-    OrderReply {
-        answer: OrderAnswer::Given,
-        order: reach::order_below(s.book, s.book.names),
-    }
+    check_loaded(s)?; // Without a book there is no name to list.
+    Ok(reach::order_below(s.book, s.book.names))
 }
 
 // M and N worked out group by group in working order, and whether the lesson is contradictory. The model that stands is not read.
-pub fn model_by_groups(s: Shelf, l: Lesson) -> GroupsReply
-    ensures { GivesGroups s l result }
+#[tactic(auto, using(crate::proofs::Replies::groups_state))]
+pub fn model_by_groups(s: &Shelf, l: &Lesson) -> Result<ModelByGroups, Refusal>
+    ensures { GivesGroups s.now l.now result }
 {
-    if s.loaded == 0 {
-        return GroupsReply {
-            answer: ModelAnswer::Refused(20),
-            values: Values {
-                truths: litset::empty(),
-                nonfalse: litset::empty(),
-            },
-        };
-    }
+    check_loaded(s)?;
     let values = groups::model_by_groups(s.book, in_force(l));
-    GroupsReply {
-        answer: consistency(values.truths),
+    let contradictory = is_contradictory(values.truths);
+    Ok(ModelByGroups {
         values,
-    }
+        contradictory,
+    })
 }
 
 // ---- listing
 
-// The listing, into a lent buffer.
-pub fn listing(s: Shelf, l: Lesson, buffer: &mut [u8]) -> ListingAnswer
-    ensures { Lists s l buffer.old result buffer.new }
+// The listing, into a lent buffer; the answer is its length.
+#[tactic(auto, using(crate::proofs::Replies::listing_state))]
+pub fn listing(s: &Shelf, l: &Lesson, buffer: &mut [u8]) -> Result<usize, Refusal>
+    ensures { Lists s.now l.now buffer.old result buffer.new }
 {
-    if s.loaded == 0 {
-        return ListingAnswer::Refused(20);
-    }
+    check_loaded(s)?;
     match lister::write(s.book, in_force(l), l.marks, buffer) {
-        Written::Length(n) => {
-            return ListingAnswer::Length(n);
-        }
-        Written::Short => {
-            return ListingAnswer::Refused(25);
-        }
+        Written::Length(n) => Ok(n),
+        Written::Short => Err(Refusal::TooShort),
     }
 }
 
 // ---- preview
 
 // The listing that would follow a change, into a lent buffer. The change is made on a copy of the lesson, so the lesson keeps its facts.
-pub fn preview(s: Shelf, l: Lesson, change: Change, buffer: &mut [u8]) -> ListingAnswer
-    ensures { Previews s l change buffer.old result buffer.new }
+#[tactic(auto, using(crate::proofs::Listings::preview_listed, crate::proofs::Listings::preview_refused))]
+pub fn preview(s: &Shelf, l: &Lesson, change: Change, buffer: &mut [u8]) -> Result<usize, Refusal>
+    ensures { Previews s.now l.now change buffer.old result buffer.new }
 {
-    let copy = change_facts(s, l, change);
-    let answer = copy.answer;
-    match answer {
-        ChangeAnswer::Done => {
-            return listing(s, copy.lesson, buffer);
-        }
-        ChangeAnswer::Refused(number) => {
-            return ListingAnswer::Refused(number);
-        }
-    }
+    let mut copy = *l;
+    change_facts(s, &mut copy, change)?;
+    listing(s, &copy, buffer)
 }
 
 // ---- proof sheets
 
+// What the check of a sheet answers, with the refusals of this crate.
+fn judged(answer: Judgement) -> Result<(), Refusal>
+    requires { IsOfCheck answer }
+    ensures { judged result ≡ judgement_of answer }
+{
+    match answer {
+        Judgement::Accepted => Ok(()),
+        Judgement::Refused { number, index } => if number == 26 {
+            Err(Refusal::EntryCount)
+        } else if number == 27 {
+            Err(Refusal::EntryAt(index))
+        } else {
+            Err(Refusal::ClaimNotShown)
+        },
+    }
+}
+
 // Whether the first n entries of a sheet show the claim that a literal is true, or that it is false. It holds of M and N of the lesson's program, contradictory
 // or not, and reads neither.
+#[tactic(auto, using(crate::proofs::Sheets::check_state, crate::proofs::Sheets::of_check, crate::proofs::Sheets::check_given))]
 pub fn check_sheet(
-    s: Shelf,
-    l: Lesson,
+    s: &Shelf,
+    l: &Lesson,
     literal: usize,
     truth: bool,
     n: usize,
-    sheet: Sheet,
-) -> Judgement
-    ensures { Checks s l literal truth (entries_in sheet.fields n) result }
+    sheet: &Sheet,
+) -> Result<(), Refusal>
+    ensures { Checks s.now l.now literal truth (entries_in sheet.now.fields n) result }
 {
-    let number = state_refusal(s, literal);
-    if number != 0 {
-        return Judgement::Refused { number, index: 0 };
-    }
-    sheet::judge(s.book, in_force(l), literal, truth, n, sheet)
-}
-
-// What the maker answers in a book of so many names, once the state turns nothing down.
-fn make_answer(names: usize, room: usize, found: bool, count: usize) -> MakeAnswer
-    requires { names ≤ max_names }
-    ensures { make_said result ≡ make_says (2 * names) room found count }
-{
-    if !found {
-        return MakeAnswer::Refused(28);
-    }
-    if room < 4 * names {
-        return MakeAnswer::Refused(25);
-    }
-    MakeAnswer::Written(count)
+    check_literal(s, literal)?; // 20 and 21 are of the claim, and have no index.
+    judged(sheet::judge(s.book, in_force(l), literal, truth, n, *sheet))
 }
 
 // A sheet for the claim that a literal is true, or that it is false, for a lent run with room for so many entries.
-pub fn make_sheet(s: Shelf, l: Lesson, literal: usize, truth: bool, room: usize) -> MakeReply
-    ensures { MakesTable s l literal truth room result }
+#[tactic(auto, using(crate::proofs::Sheets::make_state, crate::proofs::Sheets::make_28))]
+pub fn make_sheet(
+    s: &Shelf,
+    l: &Lesson,
+    literal: usize,
+    truth: bool,
+    room: usize,
+) -> Result<Made, Refusal>
+    ensures { MakesTable s.now l.now literal truth room result }
 {
-    let number = state_refusal(s, literal);
-    if number != 0 {
-        return MakeReply {
-            answer: MakeAnswer::Refused(number),
-            sheet: sheet::blank(),
-        };
-    }
+    check_literal(s, literal)?;
     let made = maker::make(s.book, in_force(l), literal, truth);
-    let answer = make_answer(book::name_count(s.book), room, made.found, made.count);
-    let sheet = made.sheet;
-    MakeReply { answer, sheet }
+    if !made.found {
+        return Err(Refusal::ClaimNotShown);
+    }
+    let names = book::name_count(s.book);
+    if room < 4 * names {
+        return Err(Refusal::TooShort);
+    }
+    Ok(made)
 }

@@ -5,8 +5,6 @@ use Rattle.reader.specs.File.{Outcome, accepted, refused}
 use Rattle.lister.specs.Listing.{listing_of, refusal_of}
 use Rattle.lister.specs.declared.Written.{Written}
 use Rattle.lister.specs.declared.Written.TheVariants.{Length, Short}
-use Rattle.lesson.specs.declared.ListingAnswer.{ListingAnswer}
-use Rattle.lesson.specs.declared.ListingAnswer.TheVariants as listing
 
 -- `refused,NUMBER,LINE`, or the listing with no fact put in
 unfoldable pub printed : Outcome → List ℕ
@@ -14,10 +12,6 @@ printed (accepted names rules) = listing_of names rules ∅
 printed (refused number at) = refusal_of number at
 
 -- how many bytes a call has written
-abbrev pub listed_in : ListingAnswer → ℕ
-listed_in (listing.Length n) = n
-listed_in (listing.Refused number) = 0
-
 abbrev pub written_in : Written → ℕ
 written_in (Length n) = n
 written_in Short = 0

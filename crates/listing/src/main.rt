@@ -5,22 +5,11 @@ ghost use Rattle.std.specs.Prelude.{◌≡◌, ◌≤◌, length, take};
 ghost use Rattle.scan.specs.declared.Alphabet.TheVariants.{EitherCase};
 ghost use Rattle.reader.specs.File.{read_file};
 ghost use Rattle.io.specs.Counts.{IsPrefixLen};
-ghost use Rattle.listing.specs.Printed.{printed, listed_in, written_in};
+ghost use Rattle.listing.specs.Printed.{printed, written_in};
 
-use lesson::ListingAnswer;
 use lister::Written;
-use reader::Answer;
 
 // How many bytes were written.
-fn listed_in(a: ListingAnswer) -> usize
-    ensures { result ≡ listed_in a }
-{
-    match a {
-        ListingAnswer::Length(n) => n,
-        ListingAnswer::Refused(_) => 0,
-    }
-}
-
 fn written_in(w: Written) -> usize
     ensures { result ≡ written_in w }
 {
@@ -36,16 +25,10 @@ fn listed(file: &[u8], out: &mut [u8]) -> usize
     ensures prefix_len { IsPrefixLen result out.new }
     ensures out_after { take result out.new ≡ printed (read_file EitherCase file.now) }
 {
-    let loaded = desk::load(desk::fresh(), file);
-    let answer = loaded.answer;
-    match answer {
-        Answer::Accepted => {
-            let d = loaded.desk;
-            return listed_in(lesson::listing(d.shelf, d.lesson, out));
-        }
-        Answer::Refused { number, line } => {
-            return written_in(lister::write_refusal(number, line, out));
-        }
+    let mut d = desk::fresh();
+    match desk::load(&mut d, file) {
+        Ok(()) => lesson::listing(&d.shelf, &d.lesson, out).unwrap_or(0),
+        Err(refusal) => written_in(lister::write_refusal(refusal.number, refusal.line, out)),
     }
 }
 

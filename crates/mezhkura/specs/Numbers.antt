@@ -1,35 +1,26 @@
 -- Document 01's number and values for each case of the answers. An exported call answers the numbers of a reply that the call of `desk`, `lesson` or `reader`
 -- may give; 0 says that it was not turned down.
-use Rattle.std.specs.Prelude.{◌≡◌, Bool, not, cond, ℕ, eqb}
-use Rattle.reader.specs.declared.Answer.{Answer}
-use Rattle.reader.specs.declared.Answer.TheVariants.{Accepted, Refused}
+use Rattle.std.specs.Prelude.{◌≡◌, Bool, not, cond, [], ℕ, eqb, Result, Ok, Err}
+use Rattle.std.specs.Result.{result_unwrap_or}
+use Rattle.wfsx.specs.Sets.{∅}
+use Rattle.litset.specs.Words.{set_of}
 use Rattle.reader.specs.declared.SizeAnswer.{SizeAnswer}
 use Rattle.reader.specs.declared.SizeAnswer.TheVariants as size
-use Rattle.sheet.specs.declared.Judgement.{Judgement}
-use Rattle.sheet.specs.declared.Judgement.TheVariants as judgement
+use Rattle.fixpoint.specs.declared.Verdict.{Verdict}
 use Rattle.fixpoint.specs.declared.Verdict.TheVariants.{True, False, Undefined}
 use Rattle.search.specs.declared.Tree.{Tree}
+use Rattle.reach.specs.Order.{order_table}
+use Rattle.reach.specs.declared.Order.{Order}
+use Rattle.maker.specs.declared.Made.{Made}
+use Rattle.lesson.specs.State.{number_of}
+use Rattle.lesson.specs.Calls.{index_of}
 use Rattle.lesson.specs.declared.Shelf.{Shelf}
-use Rattle.lesson.specs.declared.ChangeReply as lesson-change
-use Rattle.lesson.specs.declared.ModelReply as lesson-model
-use Rattle.lesson.specs.declared.OrderReply as lesson-order
-use Rattle.lesson.specs.declared.GroupsReply as lesson-groups
-use Rattle.lesson.specs.declared.ChangeAnswer.{ChangeAnswer}
-use Rattle.lesson.specs.declared.ChangeAnswer.TheVariants as change
-use Rattle.lesson.specs.declared.VerdictAnswer.{VerdictAnswer}
-use Rattle.lesson.specs.declared.VerdictAnswer.TheVariants as verdict
-use Rattle.lesson.specs.declared.SearchAnswer.{SearchAnswer}
-use Rattle.lesson.specs.declared.SearchAnswer.TheVariants as searched
-use Rattle.lesson.specs.declared.ModelAnswer.{ModelAnswer}
-use Rattle.lesson.specs.declared.ModelAnswer.TheVariants as model
-use Rattle.lesson.specs.declared.OrderAnswer.{OrderAnswer}
-use Rattle.lesson.specs.declared.OrderAnswer.TheVariants as order
-use Rattle.lesson.specs.declared.ListingAnswer.{ListingAnswer}
-use Rattle.lesson.specs.declared.ListingAnswer.TheVariants as listing
-use Rattle.lesson.specs.declared.MakeAnswer.{MakeAnswer}
-use Rattle.lesson.specs.declared.MakeAnswer.TheVariants as making
-use Rattle.lesson.specs.declared.MakeReply as lesson-make
-use Rattle.desk.specs.declared.LoadReply as desk-load
+use Rattle.lesson.specs.declared.Lesson.{Lesson}
+use Rattle.lesson.specs.declared.Refusal.{Refusal}
+use Rattle.lesson.specs.declared.WholeModel.{WholeModel}
+use Rattle.lesson.specs.declared.ModelByGroups.{ModelByGroups}
+use Rattle.desk.specs.declared.Desk.{Desk}
+use Rattle.desk.specs.declared.Refusal as loading
 use Rattle.mezhkura.specs.declared.SizeReply.{SizeReply}
 use Rattle.mezhkura.specs.declared.LoadReply.{LoadReply}
 use Rattle.mezhkura.specs.declared.ChangeReply.{ChangeReply}
@@ -41,7 +32,22 @@ use Rattle.mezhkura.specs.declared.GroupsReply.{GroupsReply}
 use Rattle.mezhkura.specs.declared.ListingReply.{ListingReply}
 use Rattle.mezhkura.specs.declared.CheckReply.{CheckReply}
 use Rattle.mezhkura.specs.declared.MakeReply.{MakeReply}
-use Rattle.mezhkura.specs.declared.SheetMade.{SheetMade}
+
+-- ---- the number and the values of an answer
+
+-- 0 where the call was not turned down
+abbrev pub number_in : {T : Type 0} → Result T Refusal → ℕ
+number_in (Ok value) = 0
+number_in (Err e) = number_of e
+
+-- what `read` says of the value; a refusal has none, and `none` stands in its place
+abbrev pub value_in : {T X : Type 0} → (read : T → X) → (none : X) → Result T Refusal → X
+value_in read none (Ok value) = read value
+value_in read none (Err e) = none
+
+-- a flag of an answer: 1 is yes, 0 is no
+abbrev pub flag : Bool → ℕ
+flag b = cond b 1 0
 
 -- ---- sizing
 
@@ -52,54 +58,36 @@ size_numbers (size.Refused number line) = record { number = number; line = line;
 
 -- ---- load
 
-abbrev pub load_number : Answer → ℕ
-load_number Accepted = 0
-load_number (Refused number line) = number
+abbrev pub load_number : Result (Unit {0}) loading.Refusal → ℕ
+load_number (Ok done) = 0
+load_number (Err e) = e.number
 
-abbrev pub load_line : Answer → ℕ
-load_line Accepted = 0
-load_line (Refused number line) = line
+abbrev pub load_line : Result (Unit {0}) loading.Refusal → ℕ
+load_line (Ok done) = 0
+load_line (Err e) = e.line
 
-abbrev pub LoadIn : (desk-load.LoadReply → Type 0) → LoadReply → Type 0
-LoadIn May r = (q : desk-load.LoadReply) × May q × (r.number ≡ load_number q.answer) × (r.line ≡ load_line q.answer) × (r.desk ≡ q.desk)
+abbrev pub LoadIn : (Result (Unit {0}) loading.Refusal → Desk → Type 0) → LoadReply → Type 0
+LoadIn May r = (a : Result (Unit {0}) loading.Refusal) × May a r.desk × (r.number ≡ load_number a) × (r.line ≡ load_line a)
 
 -- ---- putting in and taking out
 
-abbrev pub change_number : ChangeAnswer → ℕ
-change_number change.Done = 0
-change_number (change.Refused number) = number
-
 -- the desk afterwards has the shelf that it had
-abbrev pub ChangeIn : Shelf → (lesson-change.ChangeReply → Type 0) → ChangeReply → Type 0
+abbrev pub ChangeIn : Shelf → (Result (Unit {0}) Refusal → Lesson → Type 0) → ChangeReply → Type 0
 ChangeIn s May r =
-    (q : lesson-change.ChangeReply) × May q × (r.number ≡ change_number q.answer) × (r.desk ≡ record { shelf = s; lesson = q.lesson })
+    (a : Result (Unit {0}) Refusal) × May a r.desk.lesson × (r.number ≡ number_in a) × (r.desk.shelf ≡ s)
 
 -- ---- verdict
 
-abbrev pub verdict_number : VerdictAnswer → ℕ
-verdict_number (verdict.Given v) = 0
-verdict_number (verdict.Refused number) = number
-
 -- false is 0, true is 1, undefined is 2
-abbrev pub verdict_value : VerdictAnswer → ℕ
-verdict_value (verdict.Given False) = 0
-verdict_value (verdict.Given True) = 1
-verdict_value (verdict.Given Undefined) = 2
-verdict_value (verdict.Refused number) = 0
+abbrev pub verdict_number : Verdict → ℕ
+verdict_number False = 0
+verdict_number True = 1
+verdict_number Undefined = 2
 
-abbrev pub VerdictIn : (VerdictAnswer → Type 0) → VerdictReply → Type 0
-VerdictIn May r = (a : VerdictAnswer) × May a × (r.number ≡ verdict_number a) × (r.verdict ≡ verdict_value a)
+abbrev pub VerdictIn : (Result Verdict Refusal → Type 0) → VerdictReply → Type 0
+VerdictIn May r = (a : Result Verdict Refusal) × May a × (r.number ≡ number_in a) × (r.verdict ≡ value_in verdict_number 0 a)
 
 -- ---- search
-
-abbrev pub search_number : SearchAnswer → ℕ
-search_number (searched.Given holds) = 0
-search_number (searched.Refused number) = number
-
--- yes is 1, no is 0
-abbrev pub search_value : SearchAnswer → ℕ
-search_value (searched.Given holds) = cond holds 1 0
-search_value (searched.Refused number) = 0
 
 -- a flag that is not 0 is set
 abbrev pub is_set : ℕ → Bool
@@ -109,69 +97,50 @@ is_set flag = not (eqb flag 0)
 abbrev pub kind_of : ℕ → Tree
 kind_of tree = cond (eqb tree 0) Tree.T Tree.Tu
 
-abbrev pub SearchIn : (SearchAnswer → Type 0) → SearchReply → Type 0
-SearchIn May r = (a : SearchAnswer) × May a × (r.number ≡ search_number a) × (r.holds ≡ search_value a)
+abbrev pub SearchIn : (Result Bool Refusal → Type 0) → SearchReply → Type 0
+SearchIn May r = (a : Result Bool Refusal) × May a × (r.number ≡ number_in a) × (r.holds ≡ value_in flag 0 a)
 
 -- ---- model
 
-abbrev pub model_number : ModelAnswer → ℕ
-model_number model.Consistent = 0
-model_number model.Contradictory = 0
-model_number (model.Refused number) = number
-
--- 1 where the lesson is contradictory
-abbrev pub model_value : ModelAnswer → ℕ
-model_value model.Consistent = 0
-model_value model.Contradictory = 1
-model_value (model.Refused number) = 0
-
-abbrev pub ModelIn : (lesson-model.ModelReply → Type 0) → ModelReply → Type 0
+-- 1 where the lesson is contradictory; a call that is turned down gives empty sets and no round
+abbrev pub ModelIn : (Result WholeModel Refusal → Type 0) → ModelReply → Type 0
 ModelIn May r =
-    (q : lesson-model.ModelReply) × May q × (r.number ≡ model_number q.answer) × (r.contradictory ≡ model_value q.answer)
-    × (r.truths ≡ q.model.truths) × (r.nonfalse ≡ q.model.nonfalse) × (r.rounds ≡ q.model.rounds)
+    (a : Result WholeModel Refusal) × May a × (r.number ≡ number_in a) × (r.contradictory ≡ value_in (λ (m : WholeModel). flag m.contradictory) 0 a)
+    × (set_of r.truths.words ≡ value_in (λ (m : WholeModel). set_of m.model.truths.words) ∅ a) × (set_of r.nonfalse.words ≡ value_in (λ (m : WholeModel). set_of m.model.nonfalse.words) ∅ a)
+    × (r.rounds ≡ value_in (λ (m : WholeModel). m.model.rounds) 0 a)
 
 -- ---- working order, model by groups
 
-abbrev pub order_number : OrderAnswer → ℕ
-order_number order.Given = 0
-order_number (order.Refused number) = number
+-- a call that is turned down gives the table of no names
+abbrev pub OrderIn : (Result Order Refusal → Type 0) → OrderReply → Type 0
+OrderIn May r = (a : Result Order Refusal) × May a × (r.number ≡ number_in a) × (r.order ≡ result_unwrap_or a (order_table []))
 
-abbrev pub OrderIn : (lesson-order.OrderReply → Type 0) → OrderReply → Type 0
-OrderIn May r = (q : lesson-order.OrderReply) × May q × (r.number ≡ order_number q.answer) × (r.order ≡ q.order)
-
-abbrev pub GroupsIn : (lesson-groups.GroupsReply → Type 0) → GroupsReply → Type 0
+abbrev pub GroupsIn : (Result ModelByGroups Refusal → Type 0) → GroupsReply → Type 0
 GroupsIn May r =
-    (q : lesson-groups.GroupsReply) × May q × (r.number ≡ model_number q.answer) × (r.contradictory ≡ model_value q.answer)
-    × (r.truths ≡ q.values.truths) × (r.nonfalse ≡ q.values.nonfalse)
+    (a : Result ModelByGroups Refusal) × May a × (r.number ≡ number_in a) × (r.contradictory ≡ value_in (λ (m : ModelByGroups). flag m.contradictory) 0 a)
+    × (set_of r.truths.words ≡ value_in (λ (m : ModelByGroups). set_of m.values.truths.words) ∅ a) × (set_of r.nonfalse.words ≡ value_in (λ (m : ModelByGroups). set_of m.values.nonfalse.words) ∅ a)
 
 -- ---- listing, preview
 
-abbrev pub listing_numbers : ListingAnswer → ListingReply
-listing_numbers (listing.Length n) = record { number = 0; length = n }
-listing_numbers (listing.Refused number) = record { number = number; length = 0 }
+abbrev pub listing_numbers : Result ℕ Refusal → ListingReply
+listing_numbers a = record { number = number_in a; length = result_unwrap_or a 0 }
 
-abbrev pub ListingIn : (ListingAnswer → Type 0) → ListingReply → Type 0
-ListingIn May r = (a : ListingAnswer) × May a × (r ≡ listing_numbers a)
+abbrev pub ListingIn : (Result ℕ Refusal → Type 0) → ListingReply → Type 0
+ListingIn May r = (a : Result ℕ Refusal) × May a × (r ≡ listing_numbers a)
 
 -- ---- proof sheets
 
 -- the index is that of 27, and 0 beside another number
-abbrev pub check_numbers : Judgement → CheckReply
-check_numbers judgement.Accepted = record { number = 0; index = 0 }
-check_numbers (judgement.Refused number index) = record { number = number; index = index }
+abbrev pub check_numbers : Result (Unit {0}) Refusal → CheckReply
+check_numbers (Ok done) = record { number = 0; index = 0 }
+check_numbers (Err e) = record { number = number_of e; index = index_of e }
 
-abbrev pub CheckIn : (Judgement → Type 0) → CheckReply → Type 0
-CheckIn May r = (a : Judgement) × May a × (r ≡ check_numbers a)
+abbrev pub CheckIn : (Result (Unit {0}) Refusal → Type 0) → CheckReply → Type 0
+CheckIn May r = (a : Result (Unit {0}) Refusal) × May a × (r ≡ check_numbers a)
 
 -- a call that is turned down wrote no entry
-abbrev pub make_numbers : MakeAnswer → MakeReply
-make_numbers (making.Written n) = record { number = 0; count = n }
-make_numbers (making.Refused number) = record { number = number; count = 0 }
+abbrev pub make_numbers : Result Made Refusal → MakeReply
+make_numbers a = record { number = number_in a; count = value_in (λ (m : Made). m.count) 0 a }
 
-abbrev pub MakeIn : (MakeAnswer → Type 0) → MakeReply → Type 0
-MakeIn May r = (a : MakeAnswer) × May a × (r ≡ make_numbers a)
-
--- the same beside the sheet, before its entries are written into the lent run
-abbrev pub SheetIn : (lesson-make.MakeReply → Type 0) → SheetMade → Type 0
-SheetIn May m =
-    (q : lesson-make.MakeReply) × May q × (m.number ≡ (make_numbers q.answer).number) × (m.count ≡ (make_numbers q.answer).count) × (m.sheet ≡ q.sheet)
+abbrev pub MakeIn : (Result Made Refusal → Type 0) → MakeReply → Type 0
+MakeIn May r = (a : Result Made Refusal) × May a × (r ≡ make_numbers a)

@@ -1,36 +1,38 @@
--- `mezhkura_make_sheet`: in each turn entry i of the sheet is stored in the run; what is left of the run stands behind them (`makes_run`).
-use Rattle.std.proofs.Common.{◌≡◌, ◌<◌, List, length, ap, ap₂, ◌∙◌, arith, rules}
+-- `mezhkura_make_sheet`: in each turn entry i of the sheet is stored in the run; what is left of the run stands behind them.
+use Rattle.std.proofs.Common.{◌≡◌, List, ◌++◌, take, drop, refl, sym, ap, ap₂, ◌∙◌, arith}
+use Rattle.std.proofs.lemmas.List.{length-take-le, drop_all, append-nil}
+use Rattle.std.specs.Prelude.{Ok}
 use lib.ListN.{set}
+use Rattle.sheet.specs.Flat.{entries_in}
 use Rattle.sheet.specs.declared.SheetEntry.{SheetEntry}
 use Rattle.lent.proofs.Copied.{over, over_none, over_more}
-use Rattle.mezhkura.proofs.Runs.{made_within, makes_run}
+use Rattle.mezhkura.proofs.Runs.{made_within}
 use Rattle.mezhkura.proofs.mezhkura_make_sheet.Goals as goal
 
 pub loop-i-init : goal.loop-i-init
-loop-i-init c = (omega arith, over_none _ _)
+loop-i-init c = over_none _ _
 
--- the place of entry i is in the run
-inside : (c : goal.After-entry_at) → c.loop-i.i < length c.loop-i.entries
-inside c = omega (arith, c.loop-i.auto.entries, made_within c.args.desk c.args.literal c.args.truth _ c.make-made.result c.make-made.ensures)
+-- there is room for what was made
+pub slice_bounds-entry-items-end : goal.slice_bounds-entry-items-end
+slice_bounds-entry-items-end c = made_within _ _ _ _ _ c.in-Ok.made c.in-Ok.ensures
 
-pub offset_bounds-entries-i : goal.offset_bounds-entries-i
-offset_bounds-entries-i c = let within = inside c in search rules
-
-pub bounds-entries-i : goal.bounds-entries-i
-bounds-entries-i c = inside c
+pub slice_bounds-entry-items-end-in-Ok : goal.slice_bounds-entry-items-end-in-Ok
+slice_bounds-entry-items-end-in-Ok c = sym (length-take-le _ _ (made_within _ _ _ _ _ c.in-Ok.made c.in-Ok.ensures))
 
 pub loop-i-preserved : goal.loop-i-preserved
 loop-i-preserved c =
-    let made = c.make-made.result in
-    let es = c.args.entries.now in
-    let here : c.loop-i.i < length es = omega (arith, inside c, c.loop-i.auto.entries) in (
-      omega arith,
-      ap₂ (λ (l : List SheetEntry) (e : SheetEntry). set l c.loop-i.i e) c.loop-i.invariant.1 c.entry_at.ensures ∙ over_more made.sheet.fields es c.loop-i.i here,
-    )
+    let written = take c.in-Ok.made.count c.args.entries.now in
+    ap₂ (λ (l : List SheetEntry) (e : SheetEntry). set l c.loop-i.i e) c.loop-i.invariant c.entry_at.ensures
+    ∙ over_more c.in-Ok.made.sheet.fields written c.loop-i.i c.loop-i-test.true
 
-pub returns : goal.returns
-returns c =
-    let made = c.make-made.result in
+pub returns-after-loop-i : goal.returns-after-loop-i
+returns-after-loop-i c =
+    let made = c.in-Ok.made in
     let es = c.args.entries.now in
+    let within = made_within _ _ _ _ _ made c.in-Ok.ensures in
+    let long = length-take-le made.count es within in
     let all : c.loop-i.i ≡ made.count = omega arith in
-    makes_run c.args.desk c.args.literal c.args.truth es c.loop-i.entries made c.make-made.ensures (c.loop-i.invariant.1 ∙ ap (over made.sheet.fields es) all)
+    let none = drop_all made.count (take made.count es) (omega arith) in
+    let written : c.loop-i.entry-items ≡ entries_in made.sheet.fields made.count =
+    c.loop-i.invariant ∙ ap (over made.sheet.fields (take made.count es)) all ∙ ap (entries_in made.sheet.fields made.count ++◌) none ∙ append-nil _ in
+    (Ok made, record { makes = c.in-Ok.ensures; entries = ap (λ (l : List SheetEntry). l ++ drop made.count es) written }, refl)

@@ -1,10 +1,7 @@
--- `mezhkura_make_sheet`: the run's first i entries are the sheet's, and the others are as they were.
-use Rattle.std.proofs.Common.{◌-◌, ◌≡◌, ◌≤◌}
+-- `mezhkura_make_sheet`: of the entries that are written the first i are the sheet's, and the others are as they were.
+use Rattle.std.proofs.Common.{◌≡◌, take}
 use Rattle.lent.proofs.Copied.{over}
 use Rattle.mezhkura.proofs.mezhkura_make_sheet.Given as goal
 
 abbrev pub invariant-loop-i : goal.invariant-loop-i
-invariant-loop-i l = (l.i ≤ l.made.count) × (l.entries ≡ over l.made.sheet.fields l.fn.entries l.i)
-
-abbrev pub decreases-loop-i : goal.decreases-loop-i
-decreases-loop-i l = l.made.count - l.i
+invariant-loop-i l = l.entry-items ≡ over l.made.sheet.fields (take l.made.count l.fn.entries) l.i
