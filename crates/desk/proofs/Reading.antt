@@ -1,17 +1,15 @@
--- What the reader leaves, as a book or a refusal.
-use mathlib.Core.Path.{◌≡◌, refl, ap}
-use Prim.Native.Nat.{ℕ}
+-- What the reader answers, with a refusal's number and line.
+use mathlib.Core.Path.{◌≡◌, ap}
 use Rattle.std.specs.Prelude.{Ok, Err}
+use Rattle.book.specs.declared.Book.{Book}
 use Rattle.reader.specs.File.{Outcome}
-use Rattle.reader.specs.declared.Answer.TheVariants.{Accepted, Refused}
-use Rattle.reader.specs.Loading.{loaded_of}
-use Rattle.reader.specs.declared.Loaded.{Loaded}
-use Rattle.reader.proofs.Outcomes.{was_accepted, was_refused}
+use Rattle.reader.specs.Loading.{number_of, LoadedAs}
+use Rattle.reader.specs.declared.Refusal.{Refusal}
 use Rattle.desk.specs.Calls.{refusal_at, Reads}
 
-module _ (q : Loaded) (o : Outcome) (e : q ≡ loaded_of o) where
-  pub reads_accepted : q.answer ≡ Accepted → Reads o (Ok q.book)
-  reads_accepted a = let was = was_accepted q o e a in rw was.outcome (ap Ok was.book_is)
+module _ (o : Outcome) where
+  pub reads_accepted : (b : Book) → LoadedAs o (Ok b) → Reads o (Ok b)
+  reads_accepted b h = ?
 
-  pub reads_refused : (number line : ℕ) → q.answer ≡ Refused number line → Reads o (Err (refusal_at number line))
-  reads_refused number line a = rw (was_refused q o e number line a) refl
+  pub reads_refused : (f : Refusal) (number : _) → LoadedAs o (Err f) → number ≡ number_of f.fault → Reads o (Err (refusal_at number f.line))
+  reads_refused f number h e = ?

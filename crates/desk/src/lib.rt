@@ -9,7 +9,6 @@ ghost use Rattle.desk.specs.Calls.{Begun, Fresh, Reads, Loads};
 
 use book::Book;
 use lesson::{Lesson, Shelf};
-use reader::Answer;
 
 #[repr(C)]
 #[derive(Clone, Copy)]
@@ -40,7 +39,7 @@ fn begun(loaded: u8, book: Book) -> Desk
 pub fn fresh() -> Desk
     ensures { Fresh result }
 {
-    begun(0, book::no_book())
+    begun(0, Book::empty())
 }
 
 // The book of a file, or why the reader turns it down.
@@ -48,10 +47,12 @@ pub fn fresh() -> Desk
 fn read(file: &[u8]) -> Result<Book, Refusal>
     ensures { Reads (read_file EitherCase file.now) result }
 {
-    let loaded = reader::read(file);
-    match loaded.answer {
-        Answer::Accepted => Ok(loaded.book),
-        Answer::Refused { number, line } => Err(Refusal { number, line }),
+    match reader::read(file) {
+        Ok(book) => Ok(book),
+        Err(refusal) => Err(Refusal {
+            number: refusal.fault.number(),
+            line: refusal.line,
+        }),
     }
 }
 

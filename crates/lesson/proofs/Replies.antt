@@ -27,8 +27,8 @@ use Rattle.groups.specs.Whole.{WholeOf}
 use Rattle.lister.specs.Listing as lister
 use Rattle.lister.specs.Buffer.{Writes}
 use Rattle.lister.specs.declared.Marks.{Marks}
-use Rattle.lister.specs.declared.Written.{Written}
-use Rattle.lister.specs.declared.Written.TheVariants.{Length, Short}
+use Rattle.std.specs.Prelude.{Option}
+use Rattle.std.specs.Prelude.{None, Some}
 use Rattle.lister.proofs.Calls.{was_written, was_short}
 use Rattle.lister.proofs.Lines.{listing_room}
 use Rattle.std.specs.Prelude.{Ok, Err}
@@ -226,7 +226,7 @@ module _ (s : Shelf) (l : Lesson) (before : List ℕ) where
   unfolding listing_says
   listing_state e h = record { says = turned_loaded (shelf_of s) (number_of e) h _; buffer = refl }
 
-  module _ (e : gives acknowledged ≡ if_loaded (shelf_of s) (gives acknowledged)) (facts : LitSet) (force : set_of facts.words ≡ in_force (own_of l)) (after : List ℕ) (w : Written)
+  module _ (e : gives acknowledged ≡ if_loaded (shelf_of s) (gives acknowledged)) (facts : LitSet) (force : set_of facts.words ≡ in_force (own_of l)) (after : List ℕ) (w : Option ℕ)
       (h : Writes (lister.listing_held s.book facts l.marks) before w after) where
     writes : Writes (bytes_of s l) before w after
     writes = rw (bytes_are s l (loaded_passed (shelf_of s) e) facts force) at h
@@ -236,12 +236,12 @@ module _ (s : Shelf) (l : Lesson) (before : List ℕ) where
     unfolding listing_says
     says_by_length t q = loaded_says (shelf_of s) _ (loaded_passed (shelf_of s) e) ∙ rw q refl
 
-    pub listing_length : (n : ℕ) → w ≡ Length n → Lists s l before (Ok n) after
+    pub listing_length : (n : ℕ) → w ≡ Some n → Lists s l before (Ok n) after
     listing_length n q =
         let was = was_written writes n q in
         record { says = sym (says_by_length true was.0 ∙ ap gives was.1); buffer = was.2 }
 
-    pub listing_25 : w ≡ Short → Lists s l before (Err refusal.TooShort) after
+    pub listing_25 : w ≡ None → Lists s l before (Err refusal.TooShort) after
     listing_25 q =
         let was = was_short writes q in
         record { says = sym (says_by_length false was.0); buffer = was.1 }

@@ -1,11 +1,11 @@
 -- The calls about proof sheets: what they reply once the tests have picked an arm, when they are turned down, and what an accepted sheet tells. A sheet is judged
 -- over the lesson's own rules and facts, so an accepted claim is so in every lesson, whoever wrote the sheet.
 use mathlib.Core.Path.{◌≡◌, refl, sym, ◌∙◌, ap}
-use mathlib.Core.Bool.{Bool, true, false, cond, ◌&&◌}
+use mathlib.Core.Bool.{true≢false, Bool, true, false, cond, ◌&&◌}
 use mathlib.Core.List.Memᴰ
 use mathlib.Core.List.{List, [], ◌∷◌, ◌++◌}
 use mathlib.Core.Logic.{◌⊎◌, inl, inr}
-use Prim.Native.Nat.{ℕ, ◌*◌, ◌≤◌, ◌<◌}
+use Prim.Native.Nat.{zero-le, ℕ, ◌*◌, ◌≤◌, ◌<◌}
 use native.Mathlib.Omega.{arith}
 use lib.Dec.{eqb, ltb, leb}
 use lib.ListN.{length, take, drop}
@@ -21,9 +21,10 @@ use Rattle.sheet.specs.Sheet.{max_sheet, Fault, none, at, fault, kind_of, among,
 use Rattle.sheet.specs.Sheet as sheet
 use Rattle.sheet.specs.Flat.{entry_in, entries_in}
 use Rattle.sheet.specs.Answers.{judgement_of}
+use Rattle.sheet.specs.declared.Rejection.{Rejection}
+use Rattle.std.specs.Option.{is_some, IfSome}
+use Rattle.std.specs.Prelude.{Option, None, Some}
 use Rattle.sheet.specs.declared.SheetEntry.{SheetEntry}
-use Rattle.sheet.specs.declared.Judgement as declared
-use Rattle.sheet.specs.declared.Judgement.TheVariants.{Accepted, Refused}
 use Rattle.sheet.proofs.Sound.{accepted_sound}
 use Rattle.maker.specs.Result.{MadeFor}
 use Rattle.maker.specs.declared.Made.{Made}
@@ -32,7 +33,7 @@ use Rattle.maker.proofs.Exists.{made_exists}
 use Rattle.std.specs.Prelude.{Result, Ok, Err, IfOk}
 use Rattle.std.proofs.lemmas.Result.{IfOk-at_ok}
 use Rattle.lesson.specs.State.{BookState, unloaded, loaded_with, State, its_rules, in_force, program_in, none_loaded, in_book, Said, gives, refused, number_of, Ack, acknowledged, if_loaded, in_order, known_in, judged_in, judgement_says, unless_turned, check_says, make_says}
-use Rattle.lesson.specs.Calls.{shelf_of, own_of, meaning_of, index_of, judged, IsOfCheck, Checks, make_told, MakesUnless, MakesTable, entries_after, Makes}
+use Rattle.lesson.specs.Calls.{shelf_of, own_of, meaning_of, index_of, judged, Checks, make_told, count_in, MakesUnless, MakesTable, entries_after, Makes}
 use Rattle.lesson.specs.Conditions.{Miscounted, sheet_rows, check_rows, claim_rows, make_rows}
 use Rattle.lesson.specs.declared.Shelf.{Shelf}
 use Rattle.lesson.specs.declared.Lesson.{Lesson}
@@ -64,21 +65,9 @@ index_0 e b A h = go e (none_loaded b) (in_book b A) h
     go (refusal.EntryAt index) false true h = absurd (given_refused acknowledged 27 (sym h))
     go (refusal.EntryAt index) false false h = let z = refused_same 27 21 h in absurd (omega arith)
 
-not_accepted : (number index : ℕ) → sheet.refused number index ≡ accepted → ⊥
-not_accepted number index h = let z : ◌≡◌ {A = ℕ} 0 1 = cc in omega arith
-
--- the check of a sheet has the refusals of a sheet
-pub of_check : (rules : List Rule) (facts : Set) (known : ℕ) (truth : Bool) (A : ℕ) (es : List SheetEntry) (r : declared.Judgement)
-    → judgement_of r ≡ judgement rules facts known truth A es → IsOfCheck r
-unfolding judgement judged_by
-of_check rules facts known truth A es r h = go r _ (fault rules facts known es) (among (kind_of truth) A es) h
-  where
-    go : (r : declared.Judgement) (counted : Bool) (f : Fault) (claimed : Bool) → judgement_of r ≡ cond counted (judged_by f claimed) (sheet.refused 26 0) → IsOfCheck r
-    go Accepted counted f claimed h = record {}
-    go (Refused number index) true (at i) claimed h = inl cc
-    go (Refused number index) true none true h = absurd (not_accepted number index h)
-    go (Refused number index) true none false h = inr (inr cc, cc)
-    go (Refused number index) false f claimed h = inr (inl cc, cc)
+-- an answer of the check, with this crate's refusal
+pub judged_ok : (u : Unit {0}) (q : Result (Unit {0}) Rejection) → q ≡ Ok u → judged (Ok u) ≡ judgement_of q
+judged_ok u q is = rw is refl
 
 module _ (s : Shelf) (l : Lesson) (A : ℕ) (truth : Bool) where
   module _ (e : Refusal) (h : refused (number_of e) ≡ in_order (shelf_of s) A (gives acknowledged)) where
@@ -95,24 +84,25 @@ module _ (s : Shelf) (l : Lesson) (A : ℕ) (truth : Bool) where
     unfolding check_says judged_in
     check_given es F force r h = record { says = rw (← e) (h ∙ rw (force, shelf_is s (state_passed (shelf_of s) A e).0) refl) }
 
-    module _ (room : ℕ) (F : Set) (force : F ≡ in_force (own_of l)) (m : Made) (h : MadeFor (rules_of s.book) F (2 * length (names_of s.book)) truth A m)
+    module _ (room : ℕ) (F : Set) (force : F ≡ in_force (own_of l)) (m : Option Made) (h : MadeFor (rules_of s.book) F (2 * length (names_of s.book)) truth A m)
         (names : ℕ) (count : names ≡ length (names_of s.book)) where
-      made : (r : Result Made Refusal) → make_told r ≡ make_says (2 * names) room m.found m.count → IfOk r (λ n. n ≡ m) → MakesTable s l A truth room r
+      made : (r : Result Made Refusal) → make_told r ≡ make_says (2 * names) room (is_some m) (count_in m) → IfOk r (λ n. m ≡ Some n) → MakesTable s l A truth room r
       made r q i =
           let book = shelf_is s (state_passed (shelf_of s) A e).0 in
           record { unless = rw (← e) (record { made = m; made_for = rw (book, ← force) h; says = q ∙ rw (book, count) refl; gives_it = i }) }
 
-      pub make_28 : m.found ≡ false → MakesTable s l A truth room (Err refusal.ClaimNotShown)
+      pub make_28 : m ≡ None → MakesTable s l A truth room (Err refusal.ClaimNotShown)
       unfolding make_says
       make_28 f = made (Err refusal.ClaimNotShown) (rw f refl) (record {})
 
-      pub make_25 : m.found ≡ true → room < 4 * names → MakesTable s l A truth room (Err refusal.TooShort)
-      unfolding make_says
-      make_25 f h = made (Err refusal.TooShort) (rw (f, lt-leb (2 * (2 * names)) room (omega arith)) refl) (record {})
+      module _ (x : Made) (is : m ≡ Some x) where
+        pub make_25 : room < 4 * names → MakesTable s l A truth room (Err refusal.TooShort)
+        unfolding make_says
+        make_25 h = made (Err refusal.TooShort) (rw (is, lt-leb (2 * (2 * names)) room (omega arith)) refl) (record {})
 
-      pub make_count : m.found ≡ true → 4 * names ≤ room → MakesTable s l A truth room (Ok m)
-      unfolding make_says
-      make_count f h = made (Ok m) (rw (f, le-leb (2 * (2 * names)) room (omega arith)) refl) refl
+        pub make_count : 4 * names ≤ room → MakesTable s l A truth room (Ok x)
+        unfolding make_says
+        make_count h = made (Ok x) (rw (is, le-leb (2 * (2 * names)) room (omega arith)) refl) is
 
 -- ---- when the check is turned down, and what an accepted sheet tells
 
@@ -205,6 +195,10 @@ said_count known room found count n e = go found (leb (2 * known) room) refl e
     go true false y q = absurd (given_refused n 25 (sym q))
     go false t y q = absurd (given_refused n 28 (sym q))
 
+few_counted : (m : Option Made) (most : ℕ) → IfSome m (λ x. x.count ≤ most) → count_in m ≤ most
+few_counted None most h = zero-le
+few_counted (Some x) most h = h
+
 -- no more entries are written than there is room for
 pub make_within : (s : Shelf) (l : Lesson) (A : ℕ) (truth : Bool) (room : ℕ) (r : Result Made Refusal) → MakesTable s l A truth room r → (n : ℕ) → make_told r ≡ gives n → n ≤ room
 make_within s l A truth room r h n e = go (in_order (shelf_of s) A (gives acknowledged)) h.unless
@@ -212,8 +206,8 @@ make_within s l A truth room r h n e = go (in_order (shelf_of s) A (gives acknow
     go : (said : Said Ack) → MakesUnless said s l A truth room r → n ≤ room
     go (refused m) w = absurd (given_refused n m (sym e ∙ w))
     go (gives x) w =
-        let fits = said_count (known_in (shelf_of s)) room w.made.found w.made.count n (sym w.says ∙ e) in
-        omega (arith, fits.1, fits.2, w.made_for.few)
+        let fits = said_count (known_in (shelf_of s)) room (is_some w.made) (count_in w.made) n (sym w.says ∙ e) in
+        omega (arith, fits.1, fits.2, few_counted w.made _ w.made_for.few)
 
 -- ---- when the maker is turned down
 
@@ -233,27 +227,29 @@ module _ (s : Shelf) (l : Lesson) (A : ℕ) (truth : Bool) (before : List SheetE
     facts_room B i = book_in_room d sound B (sound.facts_known B i)
 
     -- a sheet is found exactly for a claim that is so
-    found_so : (m : Made) → MadeFor (its_rules (shelf_of s)) (in_force (own_of l)) (known_in (shelf_of s)) truth A m → m.found ≡ true → IsSo (program_in d) truth A
+    found_so : (m : Option Made) → MadeFor (its_rules (shelf_of s)) (in_force (own_of l)) (known_in (shelf_of s)) truth A m → is_some m ≡ true → IsSo (program_in d) truth A
     unfolding program_in
-    found_so m f y = accepted_sound (its_rules (shelf_of s)) (in_force (own_of l)) facts_room (known_in (shelf_of s)) truth A _ (f.passes y)
+    found_so None f y = absurd (true≢false (sym y))
+    found_so (Some x) f y = accepted_sound (its_rules (shelf_of s)) (in_force (own_of l)) facts_room (known_in (shelf_of s)) truth A _ f.passes
 
-    so_found : (m : Made) → MadeFor (its_rules (shelf_of s)) (in_force (own_of l)) (known_in (shelf_of s)) truth A m → A ∈ in_book (shelf_of s) → IsSo (program_in d) truth A → m.found ≡ true
+    so_found : (m : Option Made) → MadeFor (its_rules (shelf_of s)) (in_force (own_of l)) (known_in (shelf_of s)) truth A m → A ∈ in_book (shelf_of s) → IsSo (program_in d) truth A → is_some m ≡ true
     unfolding program_in in_book
-    so_found m f i so = f.complete (literals_within d sound) (ltb-true A (known_in (shelf_of s)) i) so
+    so_found (Some x) f i so = refl
+    so_found None f i so = absurd (true≢false (sym (f.complete (literals_within d sound) (ltb-true A (known_in (shelf_of s)) i) so)))
 
-    made_by : (m : Made) → MadeFor (its_rules (shelf_of s)) (in_force (own_of l)) (known_in (shelf_of s)) truth A m → A ∈ in_book (shelf_of s)
-        → By (make_says (known_in (shelf_of s)) (length before) m.found m.count) (claim_rows d A truth before)
+    made_by : (m : Option Made) → MadeFor (its_rules (shelf_of s)) (in_force (own_of l)) (known_in (shelf_of s)) truth A m → A ∈ in_book (shelf_of s)
+        → By (make_says (known_in (shelf_of s)) (length before) (is_some m) (count_in m)) (claim_rows d A truth before)
     unfolding make_says
-    made_by m f i = by_found m.found refl
+    made_by m f i = by_found (is_some m) refl
       where
         Short : Type 0
         Short = length before < 2 * known_in (shelf_of s)
 
-        by_room : (t : Bool) → leb (2 * known_in (shelf_of s)) (length before) ≡ t → By (cond t (gives m.count) (refused 25)) ((25, Short) ∷ [])
-        by_room true e = let fits = leb-true (2 * known_in (shelf_of s)) (length before) e in unmet 25 Short [] _ (λ q. omega arith) (given_by m.count _ refl)
+        by_room : (t : Bool) → leb (2 * known_in (shelf_of s)) (length before) ≡ t → By (cond t (gives (count_in m)) (refused 25)) ((25, Short) ∷ [])
+        by_room true e = let fits = leb-true (2 * known_in (shelf_of s)) (length before) e in unmet 25 Short [] _ (λ q. omega arith) (given_by (count_in m) _ refl)
         by_room false e = met 25 Short [] _ (leb-false (2 * known_in (shelf_of s)) (length before) e) refl
 
-        by_found : (t : Bool) → m.found ≡ t → By (cond t (cond (leb (2 * known_in (shelf_of s)) (length before)) (gives m.count) (refused 25)) (refused 28)) (claim_rows d A truth before)
+        by_found : (t : Bool) → is_some m ≡ t → By (cond t (cond (leb (2 * known_in (shelf_of s)) (length before)) (gives (count_in m)) (refused 25)) (refused 28)) (claim_rows d A truth before)
         by_found true e = unmet 28 (IsSo (program_in d) truth A → ⊥) ((25, Short) ∷ []) _ (λ never. never (found_so m f e)) (by_room (leb (2 * known_in (shelf_of s)) (length before)) refl)
         by_found false e = met 28 (IsSo (program_in d) truth A → ⊥) ((25, Short) ∷ []) _ (λ so. clash (so_found m f i so) e) refl
 
@@ -263,7 +259,7 @@ module _ (s : Shelf) (l : Lesson) (A : ℕ) (truth : Bool) (before : List SheetE
         go : (said : Said Ack) → in_order (shelf_of s) A (gives acknowledged) ≡ said → MakesUnless said s l A truth (length before) r → By (make_told r) (make_rows d A truth before)
         go (gives x) e w =
             let in-book = given_inside (shelf_of s) A (gives acknowledged) x e in
-            let says : make_told r ≡ in_order (shelf_of s) A (make_says (known_in (shelf_of s)) (length before) w.made.found w.made.count) =
+            let says : make_told r ≡ in_order (shelf_of s) A (make_says (known_in (shelf_of s)) (length before) (is_some w.made) (count_in w.made)) =
             w.says ∙ sym (inside (shelf_of s) A _ in-book.0 in-book.1) in
             rw says (order_by_lem d A (claim_rows d A truth before) _ (λ i. made_by w.made w.made_for i))
         go (refused n) e w =
@@ -279,28 +275,32 @@ module _ (s : Shelf) (l : Lesson) (A : ℕ) (truth : Bool) (before : List SheetE
       go : (said : Said Ack) → in_order (shelf_of s) A (gives acknowledged) ≡ said → MakesUnless said s l A truth (length before) r
           → (n ≤ 2 * known_in (shelf_of s)) × (check_says d A truth (take n after) ≡ accepted) × (drop n after ≡ drop n before)
       go (refused m) q w = absurd (given_refused n m (sym e ∙ w))
-      go (gives x) q w = (omega (arith, counted.1, w.made_for.few), accepts, ap (drop n) after_is ∙ drop_at (entries_in fields n) (drop n before) n size)
+      go (gives x) q w =
+          (omega (arith, counted.1, few_counted w.made _ w.made_for.few), accepts, ap (drop n) after_is ∙ drop_at (entries_in table n) (drop n before) n size)
         where
-          counted : (w.made.found ≡ true) × (w.made.count ≡ n) × (2 * known_in (shelf_of s) ≤ length before)
-          counted = said_count (known_in (shelf_of s)) (length before) w.made.found w.made.count n (sym w.says ∙ e)
+          counted : (is_some w.made ≡ true) × (count_in w.made ≡ n) × (2 * known_in (shelf_of s) ≤ length before)
+          counted = said_count (known_in (shelf_of s)) (length before) (is_some w.made) (count_in w.made) n (sym w.says ∙ e)
 
-          given : r ≡ Ok w.made
-          given = let v = told_ok (λ (m : Made). m.count) r n e in v.1 ∙ ap Ok (IfOk-at_ok (λ m. m ≡ w.made) v.1 w.gives_it)
+          given : (m : Made) × (r ≡ Ok m) × (m.count ≡ n)
+          given = told_ok (λ (m : Made). m.count) r n e
 
-          fields : List ℕ
-          fields = w.made.sheet.fields
+          made_is : w.made ≡ Some given.0
+          made_is = IfOk-at_ok (λ m. w.made ≡ Some m) given.1 w.gives_it
 
-          after_is : after ≡ entries_in fields n ++ drop n before
-          after_is = h.entries ∙ ap (entries_after before) given ∙ ap (λ (k : ℕ). entries_in fields k ++ drop k before) counted.1
+          table : List SheetEntry
+          table = given.0.sheet.entries
 
-          size : length (entries_in fields n) ≡ n
-          size = rows_length (entry_in fields) 0 n
+          after_is : after ≡ entries_in table n ++ drop n before
+          after_is = h.entries ∙ ap (entries_after before) given.1 ∙ ap (λ (k : ℕ). entries_in table k ++ drop k before) given.2
 
-          there : entries_in fields w.made.count ≡ take n after
-          there = ap (entries_in fields) counted.1 ∙ sym (ap (take n) after_is ∙ take_at (entries_in fields n) (drop n before) n size)
+          size : length (entries_in table n) ≡ n
+          size = rows_length (entry_in table) 0 n
+
+          there : entries_in table given.0.count ≡ take n after
+          there = ap (entries_in table) given.2 ∙ sym (ap (take n) after_is ∙ take_at (entries_in table n) (drop n before) n size)
 
           accepts : check_says d A truth (take n after) ≡ accepted
-          accepts = check_passes d A truth (take n after) x q (rw there at (w.made_for.passes counted.0))
+          accepts = check_passes d A truth (take n after) x q (rw there at (rw made_is at w.made_for.passes))
 
 -- ---- some reply meets each contract
 
@@ -342,13 +342,13 @@ module _ (s : Shelf) (l : Lesson) (A : ℕ) (truth : Bool) where
           refused_told : Told (λ (m : Made). m.count) (refused 28)
           refused_told = (Err refusal.ClaimNotShown, refl)
 
-      answer_for : (m : Made) → (r : Result Made Refusal) × (make_told r ≡ make_says (known_in (shelf_of s)) (length before) m.found m.count) × IfOk r (λ n. n ≡ m)
-      answer_for m = by m.found (leb (2 * known_in (shelf_of s)) (length before))
+      answer_for : (m : Option Made) → (r : Result Made Refusal) × (make_told r ≡ make_says (known_in (shelf_of s)) (length before) (is_some m) (count_in m)) × IfOk r (λ n. m ≡ Some n)
+      answer_for None = (Err refusal.ClaimNotShown, refl, record {})
+      answer_for (Some x) = by (leb (2 * known_in (shelf_of s)) (length before))
         where
-          by : (f t : Bool) → (r : Result Made Refusal) × (make_told r ≡ cond f (cond t (gives m.count) (refused 25)) (refused 28)) × IfOk r (λ n. n ≡ m)
-          by false t = (Err refusal.ClaimNotShown, refl, record {})
-          by true false = (Err refusal.TooShort, refl, record {})
-          by true true = (Ok m, refl, refl)
+          by : (t : Bool) → (r : Result Made Refusal) × (make_told r ≡ cond t (gives x.count) (refused 25)) × IfOk r (λ n. Some x ≡ Some n)
+          by false = (Err refusal.TooShort, refl, record {})
+          by true = (Ok x, refl, refl)
 
       go : (said : Said Ack) → in_order (shelf_of s) A (gives acknowledged) ≡ said → (r : Result Made Refusal) × MakesTable s l A truth (length before) r
       go (refused n) e = let w = turned n e in (w.0, record { unless = rw e w.1 })

@@ -1,5 +1,6 @@
 -- What each call answers and leaves, for every shelf, lesson and argument.
-use Rattle.std.specs.Prelude.{◌≡◌, ◌⊎◌, Bool, cond, ℕ, ◌++◌, List, drop, eqb, length, Result, Ok, Err, IfOk}
+use Rattle.std.specs.Prelude.{◌≡◌, ◌⊎◌, Option, None, Some, Bool, cond, ℕ, ◌++◌, List, drop, eqb, length, Result, Ok, Err, IfOk}
+use Rattle.std.specs.Option.{is_some}
 use Rattle.wfsx.specs.Sets.{Set, ∅}
 use Rattle.wfsx.specs.Program.{Entry, Program}
 use Rattle.wfsx.specs.Model as wfsx
@@ -16,8 +17,8 @@ use Rattle.sheet.specs.Sheet.{Judgement, accepted}
 use Rattle.sheet.specs.Sheet as sheet
 use Rattle.sheet.specs.Flat.{entries_in}
 use Rattle.sheet.specs.declared.SheetEntry.{SheetEntry}
-use Rattle.sheet.specs.declared.Judgement as declared
-use Rattle.sheet.specs.declared.Judgement.TheVariants as judgement
+use Rattle.sheet.specs.Answers as check
+use Rattle.sheet.specs.declared.Rejection.{Rejection}
 use Rattle.maker.specs.Result.{MadeFor}
 use Rattle.maker.specs.declared.Made.{Made}
 use Rattle.lesson.specs.State.{BookState, unloaded, loaded_with, Own, State, its_names, its_rules, in_force, program_in, Said, gives, refused, number_of, told_by, told, Ack, acknowledged, told_done, change_says, changed, search_says, contradictory_below, verdict_says, model_says, if_loaded, in_order, order_in, listing_from, listing_says, buffer_after, known_in, check_says, make_says}
@@ -177,10 +178,9 @@ abbrev pub judged : Result (Unit {0}) Refusal → Judgement
 judged (Ok done) = accepted
 judged (Err e) = sheet.refused (number_of e) (index_of e)
 
--- the refusals of the check of a sheet: 26, 27 with its index, 28
-abbrev pub IsOfCheck : declared.Judgement → Type 0
-IsOfCheck judgement.Accepted = Unit {0}
-IsOfCheck (judgement.Refused number index) = (number ≡ 27) ⊎ (((number ≡ 26) ⊎ (number ≡ 28)) × (index ≡ 0))
+-- a refusal of this crate for one of the check: the same number and index
+abbrev pub OfCheck : Rejection → Refusal → Type 0
+OfCheck r e = (number_of e ≡ check.number_of r) × (index_of e ≡ check.index_of r)
 
 -- the check of some entries for the claim that A is true, or that it is false
 pub record Checks (s : Shelf) (l : Lesson) (A : ℕ) (truth : Bool) (es : List SheetEntry) (r : Result (Unit {0}) Refusal) : Type 0 where
@@ -190,12 +190,17 @@ pub record Checks (s : Shelf) (l : Lesson) (A : ℕ) (truth : Bool) (es : List S
 abbrev pub make_told : Result Made Refusal → Said ℕ
 make_told r = told_by (λ (m : Made). m.count) r
 
+-- how many entries were made, if a sheet was
+abbrev pub count_in : Option Made → ℕ
+count_in None = 0
+count_in (Some m) = m.count
+
 -- What the maker makes for a lent run with room for so many entries. Which sheet it is, is the program's choice; `MadeFor` says what all choices share.
 pub record MakesSheet (s : Shelf) (l : Lesson) (A : ℕ) (truth : Bool) (room : ℕ) (r : Result Made Refusal) : Type 0 where
-  pub made : Made
+  pub made : Option Made
   pub made_for : MadeFor (its_rules (shelf_of s)) (in_force (own_of l)) (known_in (shelf_of s)) truth A made
-  pub says : make_told r ≡ make_says (known_in (shelf_of s)) room made.found made.count
-  pub gives_it : IfOk r (λ m. m ≡ made)
+  pub says : make_told r ≡ make_says (known_in (shelf_of s)) room (is_some made) (count_in made)
+  pub gives_it : IfOk r (λ m. made ≡ Some m)
 
 -- 20 and 21 come first
 abbrev pub MakesUnless : Said Ack → Shelf → Lesson → ℕ → Bool → ℕ → Result Made Refusal → Type 0
@@ -207,7 +212,7 @@ pub record MakesTable (s : Shelf) (l : Lesson) (A : ℕ) (truth : Bool) (room : 
 
 -- the lent entries afterwards: those after the entries that were written stay, and a refused call changes none
 abbrev pub entries_after : List SheetEntry → Result Made Refusal → List SheetEntry
-entries_after before (Ok m) = entries_in m.sheet.fields m.count ++ drop m.count before
+entries_after before (Ok m) = entries_in m.sheet.entries m.count ++ drop m.count before
 entries_after before (Err e) = before
 
 -- the maker on a lent run: `before` and `after` are its entries

@@ -1,6 +1,6 @@
 -- A book or none and the literals put in, as document 01 speaks of them, and what a call answers over them ("When a call is turned down by the state",
 -- "From rules to a model", "From a question to its trees").
-use Rattle.std.specs.Prelude.{Bool, true, false, cond, ◌&&◌, List, [], ◌++◌, ℕ, ◌*◌, leb, ltb, length, drop, Result, Ok, Err}
+use Rattle.std.specs.Prelude.{Option, None, Some, Bool, true, false, cond, ◌&&◌, List, [], ◌++◌, ℕ, ◌*◌, leb, ltb, length, drop, Result, Ok, Err}
 use Rattle.wfsx.specs.Sets.{Set, ∅, add}
 use Rattle.wfsx.specs.Program.{Entry, Rule, Program}
 use Rattle.wfsx.specs.Model.{Contradictory, Verdict}
@@ -9,8 +9,6 @@ use Rattle.wfsx.specs.Reach.{name_of}
 use Rattle.wfsx.specs.Groups.{working_order}
 use Rattle.wfsx.specs.ContradictoryNames.{contradictory_names}
 use Rattle.litset.specs.Words.{without, clash_in}
-use Rattle.litset.specs.declared.Clash.{Clash}
-use Rattle.litset.specs.declared.Clash.TheVariants.{None, Name}
 use Rattle.book.specs.Book.{program}
 use Rattle.fixpoint.specs.Result.{verdict_in}
 use Rattle.sheet.specs.Sheet.{Judgement, accepted, judgement}
@@ -162,9 +160,9 @@ unfoldable pub verdict_says : BookState → Set → Set → Set → ℕ → Said
 verdict_says b T U C A = in_order b A (cond (C A) (refused 24) (gives (verdict_in T U A)))
 
 -- whether the lesson is contradictory
-abbrev pub is_clash : Clash → Bool
+abbrev pub is_clash : Option ℕ → Bool
 is_clash None = false
-is_clash (Name n) = true
+is_clash (Some n) = true
 
 unfoldable pub model_says : BookState → Set → Said Bool
 model_says b T = if_loaded b (gives (is_clash (clash_in T)))

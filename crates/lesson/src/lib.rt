@@ -4,21 +4,20 @@
 
 ghost use Rattle.std.specs.Prelude.{◌≡◌, ◌<◌, length};
 ghost use Rattle.sheet.specs.Flat.{entries_in};
-ghost use Rattle.sheet.specs.Answers.{judgement_of};
 ghost use Rattle.litset.specs.Words.{capacity, set_of, clash_in};
 ghost use Rattle.book.specs.Book.{names_of, program_of};
 ghost use Rattle.search.specs.Questions.{tree_of, question_of};
 ghost use Rattle.lesson.specs.State.{acknowledged, gives, if_loaded, in_order, in_force, its_literal, change_fits, change_says, changed_set, is_clash, number_of, told_done};
-ghost use Rattle.lesson.specs.Calls.{shelf_of, own_of, meaning_of, Begins, MarksOf, MarksAfter, Changes, GivesVerdict, Searches, GivesModel, GivesOrder, GivesGroups, Lists, Previews, judged, IsOfCheck, Checks, MakesTable};
+ghost use Rattle.lesson.specs.Calls.{shelf_of, own_of, meaning_of, Begins, MarksOf, MarksAfter, Changes, GivesVerdict, Searches, GivesModel, GivesOrder, GivesGroups, Lists, Previews, OfCheck, Checks, MakesTable};
 
 use book::Book;
 use fixpoint::{Model, Values, Verdict};
-use lister::{Marks, Written};
-use litset::{Clash, LitSet};
+use lister::Marks;
+use litset::LitSet;
 use maker::Made;
 use reach::Order;
 use search::Tree;
-use sheet::{Judgement, Sheet};
+use sheet::{Rejection, Sheet};
 
 // The book, or none: `loaded` 0 says that there is none. (C passes the shelf, so it is no Option.)
 #[repr(C)]
@@ -115,8 +114,8 @@ fn in_force(l: &Lesson) -> LitSet
 fn marks_of(book: &Book, facts: LitSet) -> Marks
     ensures { MarksOf (length (names_of book.now)) (program_of book.now (set_of facts.words)) result }
 {
-    let model = fixpoint::model_of(*book, facts);
-    let contradictory = reach::reaching_both(*book, model.truths);
+    let model = fixpoint::model_of(book, facts);
+    let contradictory = reach::reaching_both(book, model.truths);
     Marks {
         model,
         contradictory,
@@ -127,7 +126,7 @@ fn marks_of(book: &Book, facts: LitSet) -> Marks
 pub fn begin(book: &Book) -> Lesson
     ensures { Begins book.now result }
 {
-    let facts = litset::empty();
+    let facts = LitSet::empty();
     let marks = marks_of(book, facts);
     Lesson { facts, marks }
 }
@@ -137,7 +136,7 @@ fn marks_with(book: &Book, l: &Lesson, facts: LitSet) -> Marks
     ensures { MarksAfter l.now (set_of facts.words) (length (names_of book.now)) (program_of book.now (set_of facts.words)) result }
 {
     let before = in_force(l);
-    if litset::equal(facts, before) {
+    if facts.equal(before) {
         return l.marks;
     }
     marks_of(book, facts)
@@ -160,7 +159,7 @@ fn check_literal(s: &Shelf, literal: usize) -> Result<(), Refusal>
     ensures { told_done result ≡ in_order (shelf_of s.now) literal (gives acknowledged) }
 {
     check_loaded(s)?;
-    let names = book::name_count(s.book);
+    let names = s.book.name_count();
     if 2 * names <= literal {
         return Err(Refusal::NotInBook);
     }
@@ -196,7 +195,7 @@ fn check_change(s: &Shelf, l: &Lesson, change: Change) -> Result<(), Refusal>
 {
     let literal = literal_of(change);
     check_literal(s, literal)?;
-    check_fits(change, litset::contains(l.facts, literal))
+    check_fits(change, l.facts.contains(literal))
 }
 
 // The facts put in, after a change.
@@ -206,8 +205,8 @@ fn facts_after(facts: LitSet, change: Change) -> LitSet
     ensures { set_of result.words ≡ changed_set change (set_of facts.words) }
 {
     match change {
-        Change::PutIn(literal) => litset::insert(facts, literal),
-        Change::TakeOut(literal) => litset::remove(facts, literal),
+        Change::PutIn(literal) => facts.insert(literal),
+        Change::TakeOut(literal) => facts.remove(literal),
     }
 }
 
@@ -232,10 +231,10 @@ pub fn verdict(s: &Shelf, l: &Lesson, literal: usize) -> Result<Verdict, Refusal
     ensures { GivesVerdict s.now l.now literal result }
 {
     check_literal(s, literal)?;
-    if litset::contains(l.marks.contradictory, literal) {
+    if l.marks.contradictory.contains(literal) {
         return Err(Refusal::ContradictoryName);
     }
-    Ok(fixpoint::verdict_of(l.marks.model, literal))
+    Ok(l.marks.model.verdict_of(literal))
 }
 
 // Whether the literal, or `not` of it where `default` says so, has a tree of this kind.
@@ -250,7 +249,7 @@ pub fn search(
     ensures { Searches s.now l.now literal (tree_of tree) (question_of literal default) result }
 {
     check_literal(s, literal)?;
-    let holds = search::search(s.book, in_force(l), literal, default, tree);
+    let holds = search::search(&s.book, in_force(l), literal, default, tree);
     Ok(holds)
 }
 
@@ -258,10 +257,7 @@ pub fn search(
 fn is_contradictory(truths: LitSet) -> bool
     ensures { result ≡ is_clash (clash_in (set_of truths.words)) }
 {
-    match litset::lowest_both(truths) {
-        Clash::Name(_) => true,
-        Clash::None => false,
-    }
+    truths.lowest_both().is_some()
 }
 
 // M, N, the rounds, and whether the lesson is contradictory.
@@ -286,7 +282,7 @@ pub fn working_order(s: &Shelf) -> Result<Order, Refusal>
     ensures { GivesOrder s.now result }
 {
     check_loaded(s)?; // Without a book there is no name to list.
-    Ok(reach::order_below(s.book, s.book.names))
+    Ok(reach::order_below(&s.book, s.book.names))
 }
 
 // M and N worked out group by group in working order, and whether the lesson is contradictory. The model that stands is not read.
@@ -295,7 +291,7 @@ pub fn model_by_groups(s: &Shelf, l: &Lesson) -> Result<ModelByGroups, Refusal>
     ensures { GivesGroups s.now l.now result }
 {
     check_loaded(s)?;
-    let values = groups::model_by_groups(s.book, in_force(l));
+    let values = groups::model_by_groups(&s.book, in_force(l));
     let contradictory = is_contradictory(values.truths);
     Ok(ModelByGroups {
         values,
@@ -311,9 +307,9 @@ pub fn listing(s: &Shelf, l: &Lesson, buffer: &mut [u8]) -> Result<usize, Refusa
     ensures { Lists s.now l.now buffer.old result buffer.new }
 {
     check_loaded(s)?;
-    match lister::write(s.book, in_force(l), l.marks, buffer) {
-        Written::Length(n) => Ok(n),
-        Written::Short => Err(Refusal::TooShort),
+    match lister::write(&s.book, in_force(l), l.marks, buffer) {
+        Some(n) => Ok(n),
+        None => Err(Refusal::TooShort),
     }
 }
 
@@ -331,26 +327,21 @@ pub fn preview(s: &Shelf, l: &Lesson, change: Change, buffer: &mut [u8]) -> Resu
 
 // ---- proof sheets
 
-// What the check of a sheet answers, with the refusals of this crate.
-fn judged(answer: Judgement) -> Result<(), Refusal>
-    requires { IsOfCheck answer }
-    ensures { judged result ≡ judgement_of answer }
-{
-    match answer {
-        Judgement::Accepted => Ok(()),
-        Judgement::Refused { number, index } => if number == 26 {
-            Err(Refusal::EntryCount)
-        } else if number == 27 {
-            Err(Refusal::EntryAt(index))
-        } else {
-            Err(Refusal::ClaimNotShown)
-        },
+impl From<Rejection> for Refusal {
+    ghost from_gives = { OfCheck };
+
+    fn from(r: Rejection) -> Refusal {
+        match r {
+            Rejection::WrongCount => Refusal::EntryCount,
+            Rejection::NotFollowing(index) => Refusal::EntryAt(index),
+            Rejection::ClaimMissing => Refusal::ClaimNotShown,
+        }
     }
 }
 
 // Whether the first n entries of a sheet show the claim that a literal is true, or that it is false. It holds of M and N of the lesson's program, contradictory
 // or not, and reads neither.
-#[tactic(auto, using(crate::proofs::Sheets::check_state, crate::proofs::Sheets::of_check, crate::proofs::Sheets::check_given))]
+#[tactic(auto, using(crate::proofs::Sheets::check_state, crate::proofs::Sheets::check_given))]
 pub fn check_sheet(
     s: &Shelf,
     l: &Lesson,
@@ -359,10 +350,11 @@ pub fn check_sheet(
     n: usize,
     sheet: &Sheet,
 ) -> Result<(), Refusal>
-    ensures { Checks s.now l.now literal truth (entries_in sheet.now.fields n) result }
+    ensures { Checks s.now l.now literal truth (entries_in sheet.now.entries n) result }
 {
     check_literal(s, literal)?; // 20 and 21 are of the claim, and have no index.
-    judged(sheet::judge(s.book, in_force(l), literal, truth, n, *sheet))
+    sheet::judge(&s.book, in_force(l), literal, truth, n, sheet)?;
+    Ok(())
 }
 
 // A sheet for the claim that a literal is true, or that it is false, for a lent run with room for so many entries.
@@ -377,11 +369,10 @@ pub fn make_sheet(
     ensures { MakesTable s.now l.now literal truth room result }
 {
     check_literal(s, literal)?;
-    let made = maker::make(s.book, in_force(l), literal, truth);
-    if !made.found {
+    let Some(made) = maker::make(&s.book, in_force(l), literal, truth) else {
         return Err(Refusal::ClaimNotShown);
-    }
-    let names = book::name_count(s.book);
+    };
+    let names = s.book.name_count();
     if room < 4 * names {
         return Err(Refusal::TooShort);
     }
