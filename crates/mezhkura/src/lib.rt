@@ -230,6 +230,7 @@ pub extern "C" fn mezhkura_verdict(desk: Desk, literal: usize) -> VerdictReply
 
 // ---- search
 
+// 0 is T, every other number TU. (`From` can't stand here, since neither type is of this crate.)
 fn kind_of(tree: u8) -> Tree
     ensures { result ≡ kind_of tree }
 {

@@ -21,9 +21,8 @@ slice_bounds-entry-items-end-in-Ok c = sym (length-take-le _ _ (made_within _ _ 
 
 pub loop-i-preserved : goal.loop-i-preserved
 loop-i-preserved c =
-    let written = take c.in-Ok.made.count c.args.entries.now in
     ap₂ (λ (l : List SheetEntry) (e : SheetEntry). set l c.loop-i.i e) c.loop-i.invariant c.entry_at.ensures
-    ∙ over_more c.in-Ok.made.sheet.fields written c.loop-i.i c.loop-i-test.true
+    ∙ over_more c.in-Ok.made.sheet.fields _ c.loop-i.i c.loop-i-test.true
 
 pub returns-after-loop-i : goal.returns-after-loop-i
 returns-after-loop-i c =
