@@ -11,12 +11,10 @@ use Rattle.wfsx.specs.Model.{M, N}
 use Rattle.wfsx.specs.Groups.{leaders}
 use Rattle.wfsx.proofs.Order.{in_order, order_is}
 use Rattle.litset.specs.Words.{clash_in}
-use Rattle.litset.specs.declared.Clash.{Clash}
-use Rattle.litset.specs.declared.Clash.TheVariants as clash
 use Rattle.fixpoint.proofs.Published.{no_clash, clash_name}
 use Rattle.reach.specs.Order.{order_table}
 use Rattle.reader.specs.Conditions.{First}
-use Rattle.std.specs.Prelude.{Result, Ok, Err}
+use Rattle.std.specs.Prelude.{Option, None, Some, Result, Ok, Err}
 use Rattle.std.proofs.lemmas.Result.{IfOk-at_ok}
 use Rattle.reach.specs.declared.Order.{Order}
 use Rattle.lesson.specs.State.{number_of, told, told_done, BookState, unloaded, loaded_with, State, none_loaded, in_book, program_in, listing_in, Said, gives, acknowledged, is_clash, model_says, order_in, change_says, state_after, buffer_after}
@@ -68,11 +66,11 @@ lists_due s l e stands buffer r after h =
 -- ---- the model call
 
 module _ (d : State) (s : Sound d) where
-  clash_due : (c : Clash) → clash_in (M (program_in d)) ≡ c → ConsistencyDue d (gives (is_clash c))
-  clash_due clash.None e =
+  clash_due : (c : Option ℕ) → clash_in (M (program_in d)) ≡ c → ConsistencyDue d (gives (is_clash c))
+  clash_due None e =
       let never = (no_clash (program_in d) (heads_in_room d s) (in_book d.book) (heads_in_book d s)).0 e in
       record { contradictory = (λ q. absurd (true≢false (sym (given_same false true q))), λ c. absurd (never c)); consistent = (λ q. never, λ q. refl) }
-  clash_due (clash.Name n) e =
+  clash_due (Some n) e =
       let c = ((clash_name (program_in d) (heads_in_room d s) (in_book d.book) (heads_in_book d s) n).0 e).0 in
       record { contradictory = (λ q. c, λ q. refl); consistent = (λ q. absurd (true≢false (given_same true false q)), λ never. absurd (never c)) }
 

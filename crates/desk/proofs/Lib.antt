@@ -1,6 +1,5 @@
 -- The laws that each call of the desk owes, and the theorems on lists of calls.
 pub mod Laws
-pub mod Reading
 pub mod LoadLaws
 pub mod LessonLaws
 pub mod Left

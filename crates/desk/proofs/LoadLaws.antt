@@ -14,7 +14,7 @@ use Rattle.book.proofs.Back.{book_names, book_rules}
 use Rattle.reader.specs.File.{Outcome, accepted, read_file}
 use Rattle.reader.specs.File as reader
 use Rattle.reader.proofs.Conditions.{refused_exactly}
-use Rattle.reader.proofs.Outcomes.{names_loaded, rules_loaded}
+use Rattle.reader.proofs.Outcomes.{names_loaded, rules_loaded, loaded_exists}
 use Rattle.reader.proofs.Within.{accepted_within}
 use Rattle.std.specs.Prelude.{Result, Ok, Err, is_ok}
 use Rattle.lesson.specs.State.{loaded_with, emptied, State}
@@ -23,10 +23,11 @@ use Rattle.lesson.proofs.Meaning.{shelf_empty, shelf_loaded}
 use Rattle.lesson.proofs.Sound.{sound_nothing, sound_book}
 use Rattle.lesson.proofs.Standing.{own_begins, begin_empty, begin_loaded}
 use Rattle.lesson.proofs.Exists.{begin_exists}
-use Rattle.desk.specs.Calls.{state_of, Begun, Fresh, refusal_at, Reads, LoadsAs}
+use Rattle.desk.specs.Calls.{state_of, Begun, Fresh, LoadsAs, LoadRefused}
 use Rattle.desk.specs.Runs.{load, nothing, after_load, spec_of}
 use Rattle.desk.specs.declared.Desk.{Desk}
-use Rattle.desk.specs.declared.Refusal.{Refusal}
+use Rattle.reader.specs.declared.Refusal.{Refusal}
+use Rattle.reader.specs.Loading.{number_of, LoadedAs}
 use Rattle.desk.proofs.Laws.{Good, DeskLaws}
 
 -- ---- a desk whose lesson begins
@@ -79,81 +80,69 @@ refused_outcome names rules number line e = true≢false (ap is_accepted e)
     is_accepted (accepted names rules) = true
     is_accepted (reader.refused number line) = false
 
-same_refusal : (m at number line : ℕ) → ◌≡◌ {A = Result (Unit {0}) Refusal} (Err (refusal_at m at)) (Err (refusal_at number line)) → (m ≡ number) × (at ≡ line)
-same_refusal m at number line e = (ap (λ r. (told r).number) e, ap (λ r. (told r).line) e)
-  where
-    told : Result (Unit {0}) Refusal → Refusal
-    told (Ok done) = refusal_at 0 0
-    told (Err f) = f
+module _ (k : Desk) (file : List ℕ) (m : Desk) where
+  load_means : (r : Result (Unit {0}) Refusal) → LoadsAs k (read_file EitherCase file) r m → state_of m ≡ after_load (state_of k) (read_file EitherCase file)
+  load_means (Ok done) (b, w, begun) = accepted_means file w.names w.rules w.outcome m (rw w.book_is at begun) ∙ sym (ap (after_load (state_of k)) w.outcome)
+  load_means (Err f) h = ap state_of h.1 ∙ sym (ap (after_load (state_of k)) h.0)
 
-module _ (k : Desk) (file : List ℕ) (r : Result (Unit {0}) Refusal) (m : Desk) where
-  load_means : (o : Outcome) → read_file EitherCase file ≡ o → LoadsAs k o r m → state_of m ≡ after_load (state_of k) o
-  load_means (accepted names rules) e h = accepted_means file names rules e m h.1
-  load_means (reader.refused number line) e h = ap state_of h.1
+  load_good : Good k → (r : Result (Unit {0}) Refusal) → LoadsAs k (read_file EitherCase file) r m → Good m
+  load_good g (Ok done) (b, w, begun) = accepted_good file w.names w.rules w.outcome m (rw w.book_is at begun)
+  load_good g (Err f) h = rw h.1 g
 
-  load_good : Good k → (o : Outcome) → read_file EitherCase file ≡ o → LoadsAs k o r m → Good m
-  load_good g (accepted names rules) e h = accepted_good file names rules e m h.1
-  load_good g (reader.refused number line) e h = rw h.1 g
-
-  load_by : (o : Outcome) → LoadsAs k o r m → (number line : ℕ) → (r ≡ Err (refusal_at number line)) ↔ (o ≡ reader.refused number line)
-  load_by (accepted names rules) h number line =
-      (λ e. absurd (ok_or_err tt (refusal_at number line) (sym h.0 ∙ e)), λ e. absurd (refused_outcome names rules number line e))
-  load_by (reader.refused n at) h number line =
-      (λ e. let q = same_refusal n at number line (sym h.0 ∙ e) in rw (q.0, q.1) refl, λ e. h.0 ∙ answer e)
+module _ (k : Desk) (o : Outcome) (m : Desk) (number line : ℕ) where
+  load_by : (r : Result (Unit {0}) Refusal) → LoadsAs k o r m → LoadRefused number line r ↔ (o ≡ reader.refused number line)
+  load_by (Ok done) (b, w, begun) =
+      (λ e. absurd (ok_or_err done e.0 e.1), λ e. absurd (refused_outcome w.names w.rules number line (sym w.outcome ∙ e)))
+  load_by (Err f) h = (λ e. turned e.0 e.1 e.2 e.3, λ e. (f, refl, numbers (sym h.0 ∙ e), lines (sym h.0 ∙ e)))
     where
-      answer : ◌≡◌ {A = Outcome} (reader.refused n at) (reader.refused number line) → ◌≡◌ {A = Result (Unit {0}) Refusal} (Err (refusal_at n at)) (Err (refusal_at number line))
-      answer e = cc
+      numbers : ◌≡◌ {A = Outcome} (reader.refused (number_of f.fault) f.line) (reader.refused number line) → number_of f.fault ≡ number
+      numbers e = cc
 
-  load_kept : (o : Outcome) → LoadsAs k o r m → (number line : ℕ) → r ≡ Err (refusal_at number line) → m ≡ k
-  load_kept (accepted names rules) h number line e = absurd (ok_or_err tt (refusal_at number line) (sym h.0 ∙ e))
-  load_kept (reader.refused n at) h number line e = h.1
+      lines : ◌≡◌ {A = Outcome} (reader.refused (number_of f.fault) f.line) (reader.refused number line) → f.line ≡ line
+      lines e = cc
 
-  -- the outcome by the answer
-  pub load_was_accepted : (o : Outcome) → LoadsAs k o r m → r ≡ Ok tt → (names : List (List ℕ)) × (rules : List Rule) × (o ≡ accepted names rules)
-  load_was_accepted (accepted names rules) h a = (names, rules, refl)
-  load_was_accepted (reader.refused n at) h a = absurd (ok_or_err tt (refusal_at n at) (sym a ∙ h.0))
+      turned : (g : Refusal) → ◌≡◌ {A = Result (Unit {0}) Refusal} (Err f) (Err g) → number_of g.fault ≡ number → g.line ≡ line → o ≡ reader.refused number line
+      turned g e n l =
+          let same : f ≡ g = cc in
+          h.0 ∙ rw (same, n, l) refl
 
-  pub load_was_refused : (o : Outcome) → LoadsAs k o r m → (number line : ℕ) → r ≡ Err (refusal_at number line) → o ≡ reader.refused number line
-  load_was_refused o h number line a = (load_by o h number line).0 a
+  load_kept : (r : Result (Unit {0}) Refusal) → LoadsAs k o r m → LoadRefused number line r → m ≡ k
+  load_kept (Ok done) h e = absurd (ok_or_err done e.0 e.1)
+  load_kept (Err f) h e = h.1
 
-load_exists : (k : Desk) (o : Outcome) → (r : Result (Unit {0}) Refusal × Desk) × LoadsAs k o r.0 r.1
-load_exists k (accepted names rules) =
-    let l = begin_exists (book_of names rules) in
-    ((Ok tt, record { shelf = record { loaded = 1; book = book_of names rules }; lesson = l.0 }), (refl, record { shelf_is = refl; lesson_begins = l.1 }))
-load_exists k (reader.refused number line) = ((Err (refusal_at number line), k), (refl, refl))
+module _ (k : Desk) (o : Outcome) (m : Desk) where
+  -- the outcome of a file that was loaded
+  pub load_was_accepted : (r : Result (Unit {0}) Refusal) → LoadsAs k o r m → r ≡ Ok tt → (names : List (List ℕ)) × (rules : List Rule) × (o ≡ accepted names rules)
+  load_was_accepted (Ok done) (b, w, begun) a = (w.names, w.rules, w.outcome)
+  load_was_accepted (Err f) h a = absurd (ok_or_err tt f (sym a))
+
+load_exists : (k : Desk) (file : List ℕ) → (r : Result (Unit {0}) Refusal × Desk) × LoadsAs k (read_file EitherCase file) r.0 r.1
+load_exists k file = let w = loaded_exists file in go w.0 w.1
+  where
+    go : (q : Result Book Refusal) → LoadedAs (read_file EitherCase file) q → (r : Result (Unit {0}) Refusal × Desk) × LoadsAs k (read_file EitherCase file) r.0 r.1
+    go (Ok b) w =
+        let l = begin_exists b in
+        ((Ok tt, record { shelf = record { loaded = 1; book = b }; lesson = l.0 }), (b, w, record { shelf_is = refl; lesson_begins = l.1 }))
+    go (Err f) h = ((Err f, k), (h, refl))
 
 pub load_laws : (file : List ℕ) → DeskLaws (spec_of (load file))
 load_laws file =
     record {
-      means = λ k r g h. load_means k file r.0 r.1 (read_file EitherCase file) refl h;
-      good = λ k r g h. load_good k file r.0 r.1 g (read_file EitherCase file) refl h;
+      means = λ k r g h. load_means k file r.1 r.0 h;
+      good = λ k r g h. load_good k file r.1 g r.0 h;
       exactly = λ k r g h number line.
-          let a = load_by k file r.0 r.1 (read_file EitherCase file) h number line in
+          let a = load_by k (read_file EitherCase file) r.1 number line r.0 h in
           let b = refused_exactly file number line in
           (λ q. b.0 (a.0 q), λ q. a.1 (b.1 q));
-      kept = λ k r h number line e. (load_kept k file r.0 r.1 (read_file EitherCase file) h number line e, record {});
-      replies = λ k g. load_exists k (read_file EitherCase file);
+      kept = λ k r h number line e. (load_kept k (read_file EitherCase file) r.1 number line r.0 h e, record {});
+      replies = λ k g. load_exists k file;
     }
 
 -- ---- the code's load, by what was read
 
 module _ (k : Desk) (o : Outcome) where
-  pub load_accepted : (b : Book) → Reads o (Ok b) → (m : Desk) → Begun 1 b m → LoadsAs k o (Ok tt) m
-  load_accepted b h m begun = go o h
-    where
-      go : (o : Outcome) → Reads o (Ok b) → LoadsAs k o (Ok tt) m
-      go (accepted names rules) e = (refl, rw (ok_same b (book_of names rules) e) at begun)
-        where
-          ok_same : (b c : Book) → ◌≡◌ {A = Result Book Refusal} (Ok b) (Ok c) → b ≡ c
-          ok_same b c e = cc
-      go (reader.refused number line) e = absurd (ok_or_err b (refusal_at number line) e)
+  pub load_accepted : (b : Book) → LoadedAs o (Ok b) → (m : Desk) → Begun 1 b m → LoadsAs k o (Ok tt) m
+  load_accepted b h m begun = (b, h, begun)
 
-  pub load_refused : (f : Refusal) → Reads o (Err f) → LoadsAs k o (Err f) k
-  load_refused f h = go o h
-    where
-      go : (o : Outcome) → Reads o (Err f) → LoadsAs k o (Err f) k
-      go (accepted names rules) e = absurd (ok_or_err (book_of names rules) f (sym e))
-      go (reader.refused number line) e = (ap Err (err_same f (refusal_at number line) e), refl)
-        where
-          err_same : (f g : Refusal) → ◌≡◌ {A = Result Book Refusal} (Err f) (Err g) → f ≡ g
-          err_same f g e = cc
+  pub load_refused : (f : Refusal) → LoadedAs o (Err f) → LoadsAs k o (Err f) k
+  load_refused f h = (h, refl)

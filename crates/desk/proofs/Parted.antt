@@ -15,8 +15,7 @@ use borrow.Author.Tests.{ltb-true}
 use Rattle.wfsx.specs.Sets.{Set, ◌is_in◌}
 use Rattle.wfsx.specs.Program.{Rule}
 use Rattle.wfsx.specs.Model.{Verdict, is_true, is_false, is-undefined}
-use Rattle.litset.specs.declared.Clash.{Clash}
-use Rattle.litset.specs.declared.Clash.TheVariants.{None, Name}
+use Rattle.std.specs.Prelude.{Option, None, Some}
 use Rattle.scan.specs.Text.{all_bytes, fields, comma, newline}
 use Rattle.scan.specs.declared.Alphabet.TheVariants.{EitherCase}
 use Rattle.scan.proofs.Bytes.{bytes_none, bytes_first}
@@ -158,28 +157,28 @@ module _ (w : ℕ → List ℕ) (words : (A : ℕ) → Plain (w A)) where
 
 module _ (names : List (List ℕ)) (a : AllPlain names) (rules facts k : ℕ) (w : ℕ → List ℕ) (words : (A : ℕ) → Plain (w A)) where
   -- the word of a header, and the fields behind it
-  abbrev header : Clash → List ℕ
+  abbrev header : Option ℕ → List ℕ
   header None = model_word
-  header (Name n) = contradiction_word
+  header (Some n) = contradiction_word
 
-  abbrev behind : Clash → List (List ℕ)
+  abbrev behind : Option ℕ → List (List ℕ)
   behind None = counts (length names) rules facts k
-  behind (Name n) = counts (length names) rules facts k ++ (get_or names n [] ∷ [])
+  behind (Some n) = counts (length names) rules facts k ++ (get_or names n [] ∷ [])
 
-  header_is : (c : Clash) → header_by names rules facts k c ≡ line (header c) (behind c)
+  header_is : (c : Option ℕ) → header_by names rules facts k c ≡ line (header c) (behind c)
   unfolding header_by
   header_is None = refl
-  header_is (Name n) = refl
+  header_is (Some n) = refl
 
   counts_plain : {fs : List (List ℕ)} → AllPlain fs → AllPlain (counts (length names) rules facts k ++ fs)
   counts_plain p = one_more (digits_plain (length names)) (one_more (digits_plain rules) (one_more (digits_plain facts) (one_more (digits_plain k) p)))
 
-  header_plain : (c : Clash) → AllPlain (header c ∷ behind c)
+  header_plain : (c : Option ℕ) → AllPlain (header c ∷ behind c)
   unfolding all_bytes
   header_plain None = one_more (word_plain model_word refl) (counts_plain no_fields)
-  header_plain (Name n) = one_more (word_plain contradiction_word refl) (counts_plain (one_more (plain_at names a n) no_fields))
+  header_plain (Some n) = one_more (word_plain contradiction_word refl) (counts_plain (one_more (plain_at names a n) no_fields))
 
-  module _ (c : Clash) where
+  module _ (c : Option ℕ) where
     listing_lines : lines_of (listing_by names rules facts k w c) ≡ line_body (header c) (behind c) ∷ bodies w words 0 names
     listing_lines =
         let parts = first_closed (header c) (behind c) (bodies w words 0 names) ∙ ap₂ (λ (l m : List ℕ). l ++ m) (sym (header_is c)) (bodies_closed w words 0 names) in
@@ -197,9 +196,9 @@ module _ (names : List (List ℕ)) (a : AllPlain names) (rules facts k : ℕ) (w
     pub rounds_in_header : field_at (listing_by names rules facts k w c) 0 4 ≡ digits k
     rounds_in_header = ap (λ (fs : List (List ℕ)). get_or fs 4 []) header_fields ∙ go c
       where
-        go : (c : Clash) → get_or (header c ∷ behind c) 4 [] ≡ digits k
+        go : (c : Option ℕ) → get_or (header c ∷ behind c) 4 [] ≡ digits k
         go None = refl
-        go (Name n) = refl
+        go (Some n) = refl
 
-  pub name_in_header : (n : ℕ) → field_at (listing_by names rules facts k w (Name n)) 0 5 ≡ get_or names n []
-  name_in_header n = ap (λ (fs : List (List ℕ)). get_or fs 5 []) (header_fields (Name n))
+  pub name_in_header : (n : ℕ) → field_at (listing_by names rules facts k w (Some n)) 0 5 ≡ get_or names n []
+  name_in_header n = ap (λ (fs : List (List ℕ)). get_or fs 5 []) (header_fields (Some n))

@@ -17,7 +17,7 @@ use Rattle.wfsx.specs.ContradictoryNames.{contradictory_names}
 use Rattle.wfsx.proofs.Contradiction.{heads_in}
 use Rattle.wfsx.proofs.Operators.{M-head}
 use Rattle.litset.specs.Words.{capacity, clash_in}
-use Rattle.litset.specs.declared.Clash.TheVariants.{Name}
+use Rattle.std.specs.Prelude.{Some}
 use Rattle.fixpoint.proofs.Published.{clash_name}
 use Rattle.scan.specs.declared.Alphabet.TheVariants.{EitherCase}
 use Rattle.scan.specs.Text.{fields}
@@ -71,7 +71,7 @@ module _ (names : List (List ℕ)) (rules : List Rule) where
 -- ---- the listing
 
 -- the literals of M are literals of the book
-clash_below : (cs : List Call) (n : ℕ) → clash_in (M (program_in (left cs))) ≡ Name n → n < length (its_names (left cs).book)
+clash_below : (cs : List Call) (n : ℕ) → clash_in (M (program_in (left cs))) ≡ Some n → n < length (its_names (left cs).book)
 clash_below cs n e =
     let d = left cs in
     let base = in_book d.book in

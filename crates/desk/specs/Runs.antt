@@ -31,9 +31,9 @@ use Rattle.lesson.specs.declared.Refusal.{Refusal}
 use Rattle.lesson.specs.declared.WholeModel.{WholeModel}
 use Rattle.lesson.specs.declared.ModelByGroups.{ModelByGroups}
 use Rattle.calls.specs.Lists.{CallSpec, after_all, RunOf}
-use Rattle.desk.specs.Calls.{refusal_at, Loads}
+use Rattle.desk.specs.Calls.{LoadRefused, Loads}
 use Rattle.desk.specs.declared.Desk.{Desk}
-use Rattle.desk.specs.declared.Refusal as loading
+use Rattle.reader.specs.declared.Refusal as loading
 
 -- A call with its arguments. A load has the bytes of its file, a listing and a preview those of the lent buffer; a change puts a literal in or takes it out, and
 -- a preview has the change that it tries; a search has a literal number, whether `~` stands before it, and T or TU. The check of a sheet and its maker have a
@@ -97,7 +97,7 @@ spec_of (load file) =
       next = λ k r. r.1;
       after = λ d. after_load d (read_file EitherCase file);
       TurnsDown = λ d number line. IsRefused file number line;
-      RefusedBy = λ r number line. r.0 ≡ Err (refusal_at number line);
+      RefusedBy = λ r number line. LoadRefused number line r.0;
       Unwritten = λ r. Unit;
     }
 spec_of (change c) =

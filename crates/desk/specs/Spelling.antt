@@ -4,7 +4,7 @@ use Rattle.wfsx.specs.Sets.{◌is_in◌}
 use Rattle.wfsx.specs.Program.{Rule}
 use Rattle.wfsx.specs.Model.{M}
 use Rattle.litset.specs.Words.{clash_in}
-use Rattle.litset.specs.declared.Clash.TheVariants.{Name}
+use Rattle.std.specs.Prelude.{Some}
 use Rattle.scan.specs.Text.{fields}
 use Rattle.scan.specs.declared.Alphabet.TheVariants.{EitherCase}
 use Rattle.reader.specs.File.{accepted, lines_of, read_file}
@@ -28,5 +28,5 @@ pub record Spelled (cs : List Call) (names : List (List ℕ)) (rules : List Rule
   pub read_as : read_file EitherCase file ≡ accepted names rules
   -- Line 0 of the listing is the header, and field 1 of line k + 1 is name k as the file declares it.
   pub in_its_line : (k : ℕ) → k < length names → field_at (listing_in (left cs)) (k + 1) 1 ≡ declaring_field file k
-  -- Name n is the lowest-numbered with both literals in M: field 5 of the header is name n as the file declares it.
-  pub in_the_header : (n : ℕ) → clash_in (M (program_in (left cs))) ≡ Name n → (n < length names) × (field_at (listing_in (left cs)) 0 5 ≡ declaring_field file n)
+  -- Where name n is the lowest-numbered with both literals in M, field 5 of the header is name n as the file declares it.
+  pub in_the_header : (n : ℕ) → clash_in (M (program_in (left cs))) ≡ Some n → (n < length names) × (field_at (listing_in (left cs)) 0 5 ≡ declaring_field file n)

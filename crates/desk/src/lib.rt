@@ -3,25 +3,17 @@
 #![tactic(auto)]
 
 ghost use Rattle.std.specs.Prelude.{◌≡◌};
-ghost use Rattle.scan.specs.declared.Alphabet.TheVariants.{EitherCase};
-ghost use Rattle.reader.specs.File.{read_file};
-ghost use Rattle.desk.specs.Calls.{Begun, Fresh, Reads, Loads};
+ghost use Rattle.desk.specs.Calls.{Begun, Fresh, Loads};
 
 use book::Book;
 use lesson::{Lesson, Shelf};
+use reader::Refusal;
 
 #[repr(C)]
 #[derive(Clone, Copy)]
 pub struct Desk {
     pub shelf: Shelf,
     pub lesson: Lesson,
-}
-
-// Why a file is turned down: document 01's number and the line of the file.
-#[derive(Clone, Copy, Debug, PartialEq, Eq)]
-pub struct Refusal {
-    pub number: u8,
-    pub line: usize,
 }
 
 // A desk whose lesson begins on this book; `loaded` 0 says that there is none.
@@ -42,26 +34,12 @@ pub fn fresh() -> Desk
     begun(0, Book::empty())
 }
 
-// The book of a file, or why the reader turns it down.
-#[tactic(auto, using(crate::proofs::Reading::reads_accepted, crate::proofs::Reading::reads_refused))]
-fn read(file: &[u8]) -> Result<Book, Refusal>
-    ensures { Reads (read_file EitherCase file.now) result }
-{
-    match reader::read(file) {
-        Ok(book) => Ok(book),
-        Err(refusal) => Err(Refusal {
-            number: refusal.fault.number(),
-            line: refusal.line,
-        }),
-    }
-}
-
 // A file becomes the book and empties the facts, or is refused under its number and line.
 #[tactic(auto, using(crate::proofs::LoadLaws::load_accepted, crate::proofs::LoadLaws::load_refused))]
 pub fn load(desk: &mut Desk, file: &[u8]) -> Result<(), Refusal>
     ensures { Loads desk.old file.now result desk.new }
 {
-    let book = read(file)?;
+    let book = reader::read(file)?;
     *desk = begun(1, book);
     Ok(())
 }
