@@ -16,6 +16,9 @@ use Rattle.wfsx.specs.Sets.{Set, ◌∈◌, ◌is_in◌}
 use Rattle.wfsx.specs.Program.{Rule, positive}
 use Rattle.litset.specs.Words.{capacity}
 use Rattle.book.specs.Book.{names_of, rules_of}
+use Rattle.book.specs.Limits.{max_names}
+use Rattle.book.proofs.Counts.{clamp_most}
+use Rattle.book.proofs.Names.{names_counted}
 use Rattle.book.proofs.Rows.{rows_length}
 use Rattle.sheet.specs.Sheet.{max_sheet, Fault, none, at, fault, kind_of, among, Judgement, accepted, judged_by, judgement, IsSo}
 use Rattle.sheet.specs.Sheet as sheet
@@ -32,7 +35,7 @@ use Rattle.maker.proofs.Rounds.{rules_small}
 use Rattle.maker.proofs.Exists.{made_exists}
 use Rattle.std.specs.Prelude.{Result, Ok, Err, IfOk}
 use Rattle.std.proofs.lemmas.Result.{IfOk-at_ok}
-use Rattle.lesson.specs.State.{BookState, unloaded, loaded_with, State, its_rules, in_force, program_in, none_loaded, in_book, Said, gives, refused, number_of, Ack, acknowledged, if_loaded, in_order, known_in, judged_in, judgement_says, unless_turned, check_says, make_says}
+use Rattle.lesson.specs.State.{BookState, unloaded, loaded_with, State, its_names, its_rules, in_force, program_in, none_loaded, in_book, Said, gives, refused, number_of, Ack, acknowledged, if_loaded, in_order, known_in, judged_in, judgement_says, unless_turned, check_says, make_says}
 use Rattle.lesson.specs.Calls.{shelf_of, own_of, meaning_of, index_of, judged, Checks, make_told, count_in, MakesUnless, MakesTable, entries_after, Makes}
 use Rattle.lesson.specs.Conditions.{Miscounted, sheet_rows, check_rows, claim_rows, make_rows}
 use Rattle.lesson.specs.declared.Shelf.{Shelf}
@@ -199,15 +202,26 @@ few_counted : (m : Option Made) (most : ℕ) → IfSome m (λ x. x.count ≤ mos
 few_counted None most h = zero-le
 few_counted (Some x) most h = h
 
--- no more entries are written than there is room for
-pub make_within : (s : Shelf) (l : Lesson) (A : ℕ) (truth : Bool) (room : ℕ) (r : Result Made Refusal) → MakesTable s l A truth room r → (n : ℕ) → make_told r ≡ gives n → n ≤ room
-make_within s l A truth room r h n e = go (in_order (shelf_of s) A (gives acknowledged)) h.unless
+-- a book on a shelf has no more names than its table
+names_few : (s : Shelf) → length (its_names (shelf_of s)) ≤ max_names
+unfolding shelf_of
+names_few s = go (eqb s.loaded 0)
   where
-    go : (said : Said Ack) → MakesUnless said s l A truth room r → n ≤ room
-    go (refused m) w = absurd (given_refused n m (sym e ∙ w))
+    go : (b : Bool) → length (its_names (cond b unloaded (loaded_with (names_of s.book) (rules_of s.book)))) ≤ max_names
+    go true = zero-le
+    go false = omega (arith, names_counted s.book, clamp_most max_names s.book.names)
+
+-- no more entries are written than there is room for, nor than a sheet may have
+pub make_within : (s : Shelf) (l : Lesson) (A : ℕ) (truth : Bool) (room : ℕ) (m : Made) → MakesTable s l A truth room (Ok m) → (m.count ≤ room) × (m.count ≤ max_sheet)
+make_within s l A truth room m h = go (in_order (shelf_of s) A (gives acknowledged)) h.unless
+  where
+    go : (said : Said Ack) → MakesUnless said s l A truth room (Ok m) → (m.count ≤ room) × (m.count ≤ max_sheet)
+    go (refused n) w = absurd (given_refused m.count n w)
     go (gives x) w =
-        let fits = said_count (known_in (shelf_of s)) room (is_some w.made) (count_in w.made) n (sym w.says ∙ e) in
-        omega (arith, fits.1, fits.2, few_counted w.made _ w.made_for.few)
+        let fits = said_count (known_in (shelf_of s)) room (is_some w.made) (count_in w.made) m.count (sym w.says) in
+        let few = few_counted w.made _ w.made_for.few in
+        let names = names_few s in
+        (omega arith, omega arith)
 
 -- ---- when the maker is turned down
 

@@ -4,8 +4,9 @@ use Rattle.std.specs.Prelude.{◌≡◌, Bool, not, cond, [], ℕ, eqb, Result, 
 use Rattle.std.specs.Result.{result_unwrap_or}
 use Rattle.wfsx.specs.Sets.{∅}
 use Rattle.litset.specs.Words.{set_of}
-use Rattle.reader.specs.declared.SizeAnswer.{SizeAnswer}
-use Rattle.reader.specs.declared.SizeAnswer.TheVariants as size
+use Rattle.reader.specs.Loading as loading
+use Rattle.reader.specs.declared.Refusal as reader
+use Rattle.reader.specs.declared.Sizes.{Sizes}
 use Rattle.fixpoint.specs.declared.Verdict.{Verdict}
 use Rattle.fixpoint.specs.declared.Verdict.TheVariants.{True, False, Undefined}
 use Rattle.search.specs.declared.Tree.{Tree}
@@ -20,7 +21,6 @@ use Rattle.lesson.specs.declared.Refusal.{Refusal}
 use Rattle.lesson.specs.declared.WholeModel.{WholeModel}
 use Rattle.lesson.specs.declared.ModelByGroups.{ModelByGroups}
 use Rattle.desk.specs.declared.Desk.{Desk}
-use Rattle.desk.specs.declared.Refusal as loading
 use Rattle.mezhkura.specs.declared.SizeReply.{SizeReply}
 use Rattle.mezhkura.specs.declared.LoadReply.{LoadReply}
 use Rattle.mezhkura.specs.declared.ChangeReply.{ChangeReply}
@@ -52,22 +52,25 @@ flag b = cond b 1 0
 -- ---- sizing
 
 -- a refused file has no figures
-abbrev pub size_numbers : SizeAnswer → SizeReply
-size_numbers (size.Accepted names rules literals) = record { number = 0; line = 0; names = names; rules = rules; body_literals = literals }
-size_numbers (size.Refused number line) = record { number = number; line = line; names = 0; rules = 0; body_literals = 0 }
+abbrev pub size_numbers : Result Sizes reader.Refusal → SizeReply
+size_numbers (Ok sizes) = record { number = 0; line = 0; names = sizes.names; rules = sizes.rules; body_literals = sizes.body_literals }
+size_numbers (Err f) = record { number = loading.number_of f.fault; line = f.line; names = 0; rules = 0; body_literals = 0 }
+
+abbrev pub SizeIn : (Result Sizes reader.Refusal → Type 0) → SizeReply → Type 0
+SizeIn May r = (a : Result Sizes reader.Refusal) × May a × (r ≡ size_numbers a)
 
 -- ---- load
 
-abbrev pub load_number : Result (Unit {0}) loading.Refusal → ℕ
+abbrev pub load_number : Result (Unit {0}) reader.Refusal → ℕ
 load_number (Ok done) = 0
-load_number (Err e) = e.number
+load_number (Err f) = loading.number_of f.fault
 
-abbrev pub load_line : Result (Unit {0}) loading.Refusal → ℕ
+abbrev pub load_line : Result (Unit {0}) reader.Refusal → ℕ
 load_line (Ok done) = 0
-load_line (Err e) = e.line
+load_line (Err f) = f.line
 
-abbrev pub LoadIn : (Result (Unit {0}) loading.Refusal → Desk → Type 0) → LoadReply → Type 0
-LoadIn May r = (a : Result (Unit {0}) loading.Refusal) × May a r.desk × (r.number ≡ load_number a) × (r.line ≡ load_line a)
+abbrev pub LoadIn : (Result (Unit {0}) reader.Refusal → Desk → Type 0) → LoadReply → Type 0
+LoadIn May r = (a : Result (Unit {0}) reader.Refusal) × May a r.desk × (r.number ≡ load_number a) × (r.line ≡ load_line a)
 
 -- ---- putting in and taking out
 

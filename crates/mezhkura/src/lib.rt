@@ -6,19 +6,19 @@ ghost use Rattle.std.specs.Prelude.{◌≡◌, []};
 ghost use Rattle.reach.specs.Order.{order_table};
 ghost use Rattle.scan.specs.declared.Alphabet.TheVariants.{EitherCase};
 ghost use Rattle.reader.specs.File.{read_file};
-ghost use Rattle.reader.specs.Sizing.{size_of};
+ghost use Rattle.reader.specs.Sizing.{SizedAs};
 ghost use Rattle.search.specs.Questions.{tree_of, question_of};
 ghost use Rattle.lesson.specs.Calls.{Changes, GivesVerdict, Searches, GivesModel, GivesOrder, GivesGroups, Lists, Previews, Checks, Makes};
 ghost use Rattle.lesson.specs.declared.Change.TheVariants.{PutIn, TakeOut};
 ghost use Rattle.desk.specs.Calls.{Fresh, Loads};
-ghost use Rattle.mezhkura.specs.Numbers.{size_numbers, number_in, verdict_number, listing_numbers, is_set, kind_of, LoadIn, ChangeIn, VerdictIn, SearchIn, ModelIn, OrderIn, GroupsIn, ListingIn, check_numbers, CheckIn, MakeIn};
+ghost use Rattle.mezhkura.specs.Numbers.{number_in, verdict_number, listing_numbers, is_set, kind_of, SizeIn, LoadIn, ChangeIn, VerdictIn, SearchIn, ModelIn, OrderIn, GroupsIn, ListingIn, check_numbers, CheckIn, MakeIn};
 
 use desk::Desk;
 use fixpoint::{Model, Values, Verdict};
 use lesson::{Change, ModelByGroups, Refusal, WholeModel};
 use litset::LitSet;
 use reach::Order;
-use reader::SizeAnswer;
+use reader::Sizes;
 use search::Tree;
 use sheet::SheetEntry;
 
@@ -124,23 +124,23 @@ fn number_in<T>(answer: &Result<T, Refusal>) -> u8
 
 #[unsafe(no_mangle)]
 pub extern "C" fn mezhkura_size(file: &[u8]) -> SizeReply
-    ensures { result ≡ size_numbers (size_of (read_file EitherCase file.now)) }
+    ensures { SizeIn (SizedAs (read_file EitherCase file.now)) result }
 {
     match reader::size(file) {
-        SizeAnswer::Accepted {
+        Ok(Sizes {
             names,
             rules,
             body_literals,
-        } => SizeReply {
+        }) => SizeReply {
             number: 0,
             line: 0,
             names,
             rules,
             body_literals,
         },
-        SizeAnswer::Refused { number, line } => SizeReply {
-            number,
-            line,
+        Err(refusal) => SizeReply {
+            number: refusal.fault.number(),
+            line: refusal.line,
             names: 0,
             rules: 0,
             body_literals: 0,
@@ -171,7 +171,7 @@ pub extern "C" fn mezhkura_load(desk: Desk, file: &[u8]) -> LoadReply
             desk: after,
         },
         Err(refusal) => LoadReply {
-            number: refusal.number,
+            number: refusal.fault.number(),
             line: refusal.line,
             desk: after,
         },
@@ -267,8 +267,8 @@ pub extern "C" fn mezhkura_model(desk: Desk) -> ModelReply
     let number = number_in(&answer);
     let whole = answer.unwrap_or(WholeModel {
         model: Model {
-            truths: litset::empty(),
-            nonfalse: litset::empty(),
+            truths: LitSet::empty(),
+            nonfalse: LitSet::empty(),
             rounds: 0,
         },
         contradictory: false,
@@ -315,8 +315,8 @@ pub extern "C" fn mezhkura_model_by_groups(desk: Desk) -> GroupsReply
     let number = number_in(&answer);
     let grouped = answer.unwrap_or(ModelByGroups {
         values: Values {
-            truths: litset::empty(),
-            nonfalse: litset::empty(),
+            truths: LitSet::empty(),
+            nonfalse: LitSet::empty(),
         },
         contradictory: false,
     });
@@ -376,7 +376,7 @@ pub extern "C" fn mezhkura_preview_take_out(
     previewed(&desk, Change::TakeOut(literal), buffer)
 }
 
-// ---- proof sheets: the entries of a lent run are copied into a sheet's table and back, one by one
+// ---- proof sheets: the entries of a lent run are copied into a sheet's table and back
 
 fn check_reply(answer: Result<(), Refusal>) -> CheckReply
     ensures { result ≡ check_numbers answer }
@@ -402,10 +402,7 @@ pub extern "C" fn mezhkura_check_sheet(
 {
     let n = entries.len().min(sheet::MAX_SHEET);
     let mut sheet = sheet::blank();
-    for (i, entry) in entries[..n].iter().enumerate() {
-        // The table is lent: a sheet by value would be copied in each turn.
-        sheet::put_entry(&mut sheet.fields, i, *entry);
-    }
+    sheet.entries[..n].copy_from_slice(&entries[..n]);
     check_reply(lesson::check_sheet(
         &desk.shelf,
         &desk.lesson,
@@ -429,10 +426,7 @@ pub extern "C" fn mezhkura_make_sheet(
     let room = entries.len();
     match lesson::make_sheet(&desk.shelf, &desk.lesson, literal, truth != 0, room) {
         Ok(made) => {
-            for (i, entry) in entries[..made.count].iter_mut().enumerate() {
-                // The table is lent here too.
-                *entry = sheet::entry_at(&made.sheet.fields, i);
-            }
+            entries[..made.count].copy_from_slice(&made.sheet.entries[..made.count]);
             MakeReply {
                 number: 0,
                 count: made.count,
