@@ -3,15 +3,8 @@ use Rattle.std.specs.Prelude.{List, ℕ}
 use Rattle.wfsx.specs.Sets.{∅}
 use Rattle.reader.specs.File.{Outcome, accepted, refused}
 use Rattle.lister.specs.Listing.{listing_of, refusal_of}
-use Rattle.lister.specs.declared.Written.{Written}
-use Rattle.lister.specs.declared.Written.TheVariants.{Length, Short}
 
 -- `refused,NUMBER,LINE`, or the listing with no fact put in
 unfoldable pub printed : Outcome → List ℕ
 printed (accepted names rules) = listing_of names rules ∅
 printed (refused number at) = refusal_of number at
-
--- how many bytes a call has written
-abbrev pub written_in : Written → ℕ
-written_in (Length n) = n
-written_in Short = 0

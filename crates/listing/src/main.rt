@@ -5,19 +5,7 @@ ghost use Rattle.std.specs.Prelude.{◌≡◌, ◌≤◌, length, take};
 ghost use Rattle.scan.specs.declared.Alphabet.TheVariants.{EitherCase};
 ghost use Rattle.reader.specs.File.{read_file};
 ghost use Rattle.io.specs.Counts.{IsPrefixLen};
-ghost use Rattle.listing.specs.Printed.{printed, written_in};
-
-use lister::Written;
-
-// How many bytes were written.
-fn written_in(w: Written) -> usize
-    ensures { result ≡ written_in w }
-{
-    match w {
-        Written::Length(n) => n,
-        Written::Short => 0,
-    }
-}
+ghost use Rattle.listing.specs.Printed.{printed};
 
 // What is printed for a file, in a buffer that every listing fits; the answer says how long it is.
 fn listed(file: &[u8], out: &mut [u8]) -> usize
@@ -28,7 +16,10 @@ fn listed(file: &[u8], out: &mut [u8]) -> usize
     let mut d = desk::fresh();
     match desk::load(&mut d, file) {
         Ok(()) => lesson::listing(&d.shelf, &d.lesson, out).unwrap_or(0),
-        Err(refusal) => written_in(lister::write_refusal(refusal.number, refusal.line, out)),
+        Err(refusal) => {
+            let number = refusal.fault.number();
+            lister::write_refusal(number, refusal.line, out).unwrap_or(0)
+        }
     }
 }
 

@@ -1,21 +1,15 @@
--- `listed`: the buffer holds every listing, so its start is the listing that the file's answer asks for.
-use Rattle.std.proofs.Common.{Fits, w8, w64, arith, rules, refl}
-use Rattle.lister.proofs.Lines.{refusal_room}
+-- `listed`: the buffer is long enough for every listing and for every refusal, so it starts with what is printed for the file.
+use Rattle.std.proofs.Common.{Fits, w64, rules}
 use Rattle.listing.proofs.Printed.{accepted_printed, refused_printed}
 use Rattle.listing.proofs.listed.Goals as goal
 
 pub returns-in-Ok : goal.returns-in-Ok
 returns-in-Ok c =
-    let p = accepted_printed c.args.file.now _ c.fresh-d.ensures _ _ c.in-Ok.ensures c.requires _ refl c.listing.result c.listing.ensures c.unwrap_or.ensures in
+    let p = accepted_printed c.args.file.now _ _ c.requires _ c.fresh-d.ensures c.in-Ok.ensures c.listing.result c.listing.ensures c.unwrap_or.ensures in
     record { prefix_len = p.0; out_after = p.1 }
 
 pub returns-in-Err : goal.returns-in-Err
 returns-in-Err c =
-    let k = c.in-Err.refusal.number in
-    let at = c.in-Err.refusal.line in
-    let k-fits : Fits w8 k = search rules in
-    let at-fits : Fits w64 at = search rules in
-    let small = refusal_room k at (omega arith) (omega arith) in
-    let p = refused_printed c.args.file.now _ c.fresh-d.ensures _ _ c.in-Err.ensures c.requires _ k at refl c.write_refusal.result c.write_refusal.ensures
-    (omega (arith, small.fits)) c.written_in.ensures in
+    let line-fits : Fits w64 c.in-Err.refusal.line = search rules in
+    let p = refused_printed c.args.file.now _ _ c.requires _ c.in-Err.refusal c.in-Err.ensures _ c.number-number.ensures c.number-number.type_inv line-fits c.write_refusal.result c.write_refusal.ensures c.unwrap_or-in-Err.ensures in
     record { prefix_len = p.0; out_after = p.1 }
