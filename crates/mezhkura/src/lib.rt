@@ -2,11 +2,13 @@
 // what the call of `desk`, `lesson` or `reader` answers, in document 01's numbers; 0 says that it was not turned down.
 #![tactic(auto)]
 
-ghost use Rattle.std.specs.Prelude.{◌≡◌, []};
+ghost use Rattle.std.specs.Prelude.{◌≡◌, ◌≤◌, [], ◌++◌, length, drop};
 ghost use Rattle.reach.specs.Order.{order_table};
 ghost use Rattle.scan.specs.declared.Alphabet.TheVariants.{EitherCase};
 ghost use Rattle.reader.specs.File.{read_file};
 ghost use Rattle.reader.specs.Sizing.{SizedAs};
+ghost use Rattle.sheet.specs.Sheet.{max_sheet};
+ghost use Rattle.sheet.specs.Flat.{entries_in};
 ghost use Rattle.search.specs.Questions.{tree_of, question_of};
 ghost use Rattle.lesson.specs.Calls.{Changes, GivesVerdict, Searches, GivesModel, GivesOrder, GivesGroups, Lists, Previews, Checks, Makes};
 ghost use Rattle.lesson.specs.declared.Change.TheVariants.{PutIn, TakeOut};
@@ -127,20 +129,22 @@ pub extern "C" fn mezhkura_size(file: &[u8]) -> SizeReply
     ensures { SizeIn (SizedAs (read_file EitherCase file.now)) result }
 {
     match reader::size(file) {
-        Ok(Sizes {
-            names,
-            rules,
-            body_literals,
-        }) => SizeReply {
+        Ok(
+            Sizes {
+                names,
+                rules,
+                body_literals,
+            },
+        ) => SizeReply {
             number: 0,
             line: 0,
             names,
             rules,
             body_literals,
         },
-        Err(refusal) => SizeReply {
-            number: refusal.fault.number(),
-            line: refusal.line,
+        Err(reader::Refusal { fault, line }) => SizeReply {
+            number: fault.number(),
+            line,
             names: 0,
             rules: 0,
             body_literals: 0,
@@ -390,7 +394,15 @@ fn check_reply(answer: Result<(), Refusal>) -> CheckReply
     }
 }
 
-// The claim says "true" of the literal where `truth` is not 0, and "false" otherwise. No more entries are read than a sheet may have.
+// A run that is no longer than a sheet's table becomes its first entries. No more of a longer one is read.
+fn read_entries(table: &mut [SheetEntry; sheet::MAX_SHEET], run: &[SheetEntry])
+    ensures { length run.now ≤ max_sheet → entries_in table.new (length run.now) ≡ run.now }
+{
+    let n = run.len().min(sheet::MAX_SHEET);
+    table[..n].copy_from_slice(&run[..n]);
+}
+
+// The claim says "true" of the literal where `truth` is not 0, and "false" otherwise.
 #[unsafe(no_mangle)]
 pub extern "C" fn mezhkura_check_sheet(
     desk: Desk,
@@ -400,9 +412,8 @@ pub extern "C" fn mezhkura_check_sheet(
 ) -> CheckReply
     ensures { CheckIn (Checks desk.shelf desk.lesson literal (is_set truth) entries.now) result }
 {
-    let n = entries.len().min(sheet::MAX_SHEET);
     let mut sheet = sheet::blank();
-    sheet.entries[..n].copy_from_slice(&entries[..n]);
+    read_entries(&mut sheet.entries, entries);
     check_reply(lesson::check_sheet(
         &desk.shelf,
         &desk.lesson,
@@ -411,6 +422,14 @@ pub extern "C" fn mezhkura_check_sheet(
         entries.len(),
         &sheet,
     ))
+}
+
+// The first n entries of a sheet's table are written from the first place of a run on.
+fn write_entries(run: &mut [SheetEntry], table: &[SheetEntry; sheet::MAX_SHEET], n: usize)
+    requires { (n ≤ length run.old) × (n ≤ max_sheet) }
+    ensures { run.new ≡ entries_in table.now n ++ drop n run.old }
+{
+    run[..n].copy_from_slice(&table[..n]);
 }
 
 // The sheet's entries are written from the first place on.
@@ -426,7 +445,7 @@ pub extern "C" fn mezhkura_make_sheet(
     let room = entries.len();
     match lesson::make_sheet(&desk.shelf, &desk.lesson, literal, truth != 0, room) {
         Ok(made) => {
-            entries[..made.count].copy_from_slice(&made.sheet.entries[..made.count]);
+            write_entries(entries, &made.sheet.entries, made.count);
             MakeReply {
                 number: 0,
                 count: made.count,
