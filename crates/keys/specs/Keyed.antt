@@ -15,8 +15,8 @@ abbrev pub no_key : Key
 no_key = record { length = 0; first = 0; second = 0 }
 
 -- the key in place k
-abbrev pub key_at : Names → ℕ → Key
-key_at t k = get_or t.keys k no_key
+abbrev pub key_at : List Key → ℕ → Key
+key_at keys k = get_or keys k no_key
 
 -- how many places the hints have; `src/lib.rt` has the same number
 abbrev pub max_hints : ℕ
@@ -26,29 +26,37 @@ max_hints = 1021
 abbrev pub hint_place : Key → ℕ
 hint_place key = bit_xor key.first key.second % max_hints
 
+-- name k has the key, where the most names leave room for it
+abbrev pub put_key : List Key → ℕ → Key → List Key
+put_key keys k key = cond (ltb k max_names) (set keys k key) keys
+
+-- and is the name to look at first for the key
+abbrev pub put_hint : List ℕ → ℕ → Key → List ℕ
+put_hint hints k key = cond (ltb k max_names) (set hints (hint_place key) k) hints
+
 -- the table in which no name is declared
 abbrev pub no_names : Names
 no_names = record { keys = replicate max_names no_key; hints = replicate max_hints 0 }
 
--- name k is declared, where the table has room for it
+-- name k is declared
 abbrev pub with_name : Names → ℕ → Key → Names
-with_name t k key = cond (ltb k max_names) (record { keys = set t.keys k key; hints = set t.hints (hint_place key) k }) t
+with_name t k key = record { keys = put_key t.keys k key; hints = put_hint t.hints k key }
 
 -- the key is that of the name
 pub record KeyFor (key : Key) (name : List ℕ) : Type 0 where
   pub key_is : key ≡ key_of EitherCase name
   pub bytes : Bytes name
 
--- the table has the key of each name; a name is found at its own place, so no two are the same
-pub record Keyed (names : List (List ℕ)) (t : Names) : Type 0 where
-  pub room : length t.keys ≡ max_names
+-- the keys are those of the names, one for each place of the table; a name is found at its own place, so no two are the same
+pub record Keyed (names : List (List ℕ)) (keys : List Key) : Type 0 where
+  pub room : length keys ≡ max_names
   pub few : length names ≤ max_names
-  pub has_key : (k : ℕ) → k < length names → KeyFor (key_at t k) (get_or names k [])
+  pub has_key : (k : ℕ) → k < length names → KeyFor (key_at keys k) (get_or names k [])
   pub short : (k : ℕ) → k < length names → length (get_or names k []) ≤ max_length
   pub own_place : (k : ℕ) → k < length names → find EitherCase names (get_or names k []) ≡ Some k
 
--- A look-up of a key among `count` names. Whatever is in the table, a number that is found lies below the count; where the table has the keys of the names,
+-- A look-up of a key among `count` names. Whatever the keys are, a number that is found lies below the count; where they are those of the names,
 -- it is the number of the name among them.
-pub record LookedUp (t : Names) (count : ℕ) (key : Key) (r : Option ℕ) : Type 0 where
+pub record LookedUp (keys : List Key) (count : ℕ) (key : Key) (r : Option ℕ) : Type 0 where
   pub below : (i : ℕ) → r ≡ Some i → i < count
-  pub found : (names : List (List ℕ)) (n : List ℕ) → Keyed names t → count ≡ length names → KeyFor key n → r ≡ find EitherCase names n
+  pub found : (names : List (List ℕ)) (n : List ℕ) → Keyed names keys → count ≡ length names → KeyFor key n → r ≡ find EitherCase names n

@@ -3,7 +3,7 @@
 #![tactic(auto)]
 
 ghost use Rattle.std.specs.Prelude.{◌≡◌, ◌<◌};
-ghost use Rattle.keys.specs.Keyed.{max_hints, hint_place, no_names, with_name, LookedUp};
+ghost use Rattle.keys.specs.Keyed.{max_hints, hint_place, put_key, put_hint, no_names, with_name, LookedUp};
 
 use scan::Key;
 
@@ -19,8 +19,35 @@ fn hint_place(key: Key) -> usize
     ((key.first ^ key.second) % MAX_HINTS as u64) as usize
 }
 
-// The names that are declared: the keys in the order of their numbers, and the hints. Whatever the hints say, the names that they lead to are compared by
-// their keys.
+// The number of the name with the key among the first `count`. Whatever the hints say, the names that they lead to are compared by their keys.
+pub fn find(keys: &[Key], hints: &[u8], count: usize, key: Key) -> Option<usize>
+    ensures { LookedUp keys.now count key result }
+{
+    let few = count.min(keys.len());
+    let hint = usize::from(hints.get(hint_place(key)).copied().unwrap_or(0));
+    if hint < few && keys[hint] == key {
+        return Some(hint);
+    }
+    keys[..few].iter().position(|own| *own == key)
+}
+
+// Name k is declared: it has the key, and is the name to look at first for it. What has no room is left out.
+pub fn put(keys: &mut [Key], hints: &mut [u8], k: usize, key: Key)
+    ensures { (keys.new ≡ put_key keys.old k key) × (hints.new ≡ put_hint hints.old k key) }
+{
+    if k < book::MAX_NAMES {
+        if k < keys.len() {
+            keys[k] = key;
+        }
+        let place = hint_place(key);
+        if place < hints.len() {
+            // As in `hint_place`, `as` loses nothing.
+            hints[place] = k as u8;
+        }
+    }
+}
+
+// The names that are declared: the keys in the order of their numbers, and the hints.
 #[derive(Clone, Copy)]
 pub struct Names {
     keys: [Key; book::MAX_NAMES],
@@ -43,27 +70,17 @@ impl Names {
         }
     }
 
-    // The number of the name with the key among the first `count`. The count is no field: it stands with the reader's other counts, which a line alters
-    // together.
+    // The name with the key, as `find` says. The count is no field: it stands with the reader's other counts, which a line alters together.
     pub fn find(&self, count: usize, key: Key) -> Option<usize>
-        ensures { LookedUp self.now count key result }
+        ensures { LookedUp self.now.keys count key result }
     {
-        let few = count.min(book::MAX_NAMES);
-        let hint = usize::from(self.hints[hint_place(key)]);
-        if hint < few && self.keys[hint] == key {
-            return Some(hint);
-        }
-        self.keys[..few].iter().position(|own| *own == key)
+        find(&self.keys, &self.hints, count, key)
     }
 
-    // Name k is declared: it has the key, and is the name to look at first for it. A name past the table is left out.
+    // Name k is declared, as `put` says.
     pub fn put(&mut self, k: usize, key: Key)
         ensures { self.new ≡ with_name self.old k key }
     {
-        if k < book::MAX_NAMES {
-            self.keys[k] = key;
-            // As in `hint_place`, `as` loses nothing.
-            self.hints[hint_place(key)] = k as u8;
-        }
+        put(&mut self.keys, &mut self.hints, k, key);
     }
 }

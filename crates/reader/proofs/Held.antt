@@ -62,7 +62,7 @@ module _ {d : Content} {t : Counts} {table : Names} (h : Holds d t table) where
 
   -- ---- a name
 
-  pub name_held : (n : List ℕ) {table' : Names} → t.names < max_names → Keyed (d.names ++ (n ∷ [])) table'
+  pub name_held : (n : List ℕ) {table' : Names} → t.names < max_names → Keyed (d.names ++ (n ∷ [])) table'.keys
       → Holds (extended EitherCase d Name (n ∷ [])) (record { names = t.names + 1; rules = t.rules; used = t.used; ended = t.ended }) table'
   unfolding extended
   name_held n room joined =

@@ -41,7 +41,7 @@ pub record Counted (d : Content) (t : Counts) : Type 0 where
 -- what a line is judged by: the counts and the names' keys
 pub record Holds (d : Content) (t : Counts) (names : Names) : Type 0 where
   pub counted : Counted d t
-  pub keyed : Keyed d.names names
+  pub keyed : Keyed d.names names.keys
 
 -- the tables hold the names
 pub record NamesStored (names : List (List ℕ)) (text lengths : List ℕ) : Type 0 where
@@ -74,7 +74,7 @@ known_of names f = known_by (find EitherCase names (name_of f)) (tildes f) (minu
 -- they are the field's.
 pub record KnownAmong (table : Names) (count : ℕ) (f : List ℕ) (r : Option Known) : Type 0 where
   pub small : (k : Known) → r ≡ Some k → (k.literal < 2 * count) × (k.tildes ≤ 1)
-  pub known : (names : List (List ℕ)) → Keyed names table → count ≡ length names → r ≡ known_of names f
+  pub known : (names : List (List ℕ)) → Keyed names table.keys → count ≡ length names → r ≡ known_of names f
 
 -- the number that is stored for a field
 abbrev pub field_code : List (List ℕ) → List ℕ → ℕ

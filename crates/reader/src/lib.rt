@@ -205,7 +205,7 @@ fn all_known<T: Tables>(
     from: usize,
 ) -> bool
     requires { (count ≤ max_names) × (from ≤ length line.now + 1) × (at ≤ max_entries) }
-    ensures { (declared : List (List ℕ)) → Keyed declared names.now → count ≡ length declared
+    ensures { (declared : List (List ℕ)) → Keyed declared names.now.keys → count ≡ length declared
         → FieldsKnown declared (rest comma line.now from) at result (T.lists tables.old)
         (T.lists tables.new) }
 {

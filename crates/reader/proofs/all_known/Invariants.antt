@@ -14,7 +14,7 @@ use Rattle.reader.proofs.all_known.Given as goal
 abbrev pub invariant-loop-p : goal.invariant-loop-p
 invariant-loop-p g l =
     (l.p ≤ length l.line + 1) × (l.k ≤ l.at + l.p)
-    × ((names : List (List ℕ)) → Keyed names l.names → l.count ≡ length names
+    × ((names : List (List ℕ)) → Keyed names l.names.keys → l.count ≡ length names
     → (all_fields (is_known EitherCase names) (rest comma l.line l.p) ≡ all_fields (is_known EitherCase names) (rest comma l.line l.from))
     × (with_entries (g.T.Tables.lists l.tables) l.k (map (field_code names) (rest comma l.line l.p))
     ≡ with_entries (g.T.Tables.lists l.initial.tables) l.at (map (field_code names) (rest comma l.line l.from))))

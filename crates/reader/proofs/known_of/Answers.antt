@@ -16,7 +16,7 @@ use Rattle.reader.proofs.known_of.Goals as goal
 use Rattle.reader.proofs.known_of.Goals.{After-find}
 
 -- the name looked up is the field's
-found : (c : After-find) (names : List (List ℕ)) → Keyed names c.args.names.now → c.args.count ≡ length names → find EitherCase names (name_of c.args.f.now) ≡ c.find.result
+found : (c : After-find) (names : List (List ℕ)) → Keyed names c.args.names.now.keys → c.args.count ≡ length names → find EitherCase names (name_of c.args.f.now) ≡ c.find.result
 found c names t e =
     let m = c.marks_of-m in
     let key = c.key_of-key.ensures in

@@ -9,26 +9,26 @@ use Rattle.scan.specs.Keys.{same_key}
 use Rattle.scan.specs.declared.Key.{Key}
 use Rattle.keys.proofs.Found.{looked_at, looked_first, looked_none}
 use Rattle.keys.specs.Keyed.{no_key, LookedUp}
-use Rattle.keys.proofs.Names.find.Goals as goal
+use Rattle.keys.proofs.find.Goals as goal
 
 pub returns-then-eq : goal.returns-then-eq
 returns-then-eq c =
-    looked_at c.args.self.now c.args.count c.args.key c.from-hint.result (omega (arith, c.min-few.ensures, c.if-hint-few.true)) (sym c.eq.ensures ∙ c.if-eq.true)
+    looked_at c.args.keys.now c.args.count c.args.key c.from-hint.result (omega (arith, c.min-few.ensures, c.if-hint-few.true)) (sym c.eq.ensures ∙ c.if-eq.true)
 
 pub returns : goal.returns
 returns c = go c.position.result refl
   where
     few : List Key
-    few = take c.min-few.result c.args.self.now.keys
+    few = take c.min-few.result c.args.keys.now
 
-    go : (r : Option ℕ) → c.position.result ≡ r → LookedUp c.args.self.now c.args.count c.args.key r
+    go : (r : Option ℕ) → c.position.result ≡ r → LookedUp c.args.keys.now c.args.count c.args.key r
     go (Some k) e =
         let by = IsFirst-from_position _ _ c.position.result (λ (x : Key). same_key x c.args.key ≡ true) (λ (x : Key). same_key x c.args.key ≡ false)
         c.position.ensures.ran (YieldsList-from_slice few cc) (λ x q k. search (rules, tests)) (λ x q k. search (rules, tests)) in
         let first = rw e at by in
-        looked_first c.args.self.now c.args.count c.args.key c.min-few.result k (omega (arith, c.min-few.ensures)) first.0 (first.1 no_key)
+        looked_first c.args.keys.now c.args.count c.args.key c.min-few.result k (omega (arith, c.min-few.ensures)) first.0 (first.1 no_key)
     go None e =
         let by = IsFirst-from_position _ _ c.position.result (λ (x : Key). same_key x c.args.key ≡ true) (λ (x : Key). same_key x c.args.key ≡ false)
         c.position.ensures.ran (YieldsList-from_slice few cc) (λ x q k. search (rules, tests)) (λ x q k. search (rules, tests)) in
         let none = rw e at by in
-        looked_none c.args.self.now c.args.count c.args.key c.min-few.result c.min-few.ensures (λ k h. none k no_key zero-le h)
+        looked_none c.args.keys.now c.args.count c.args.key c.min-few.result c.min-few.ensures (λ k h. none k no_key zero-le h)
