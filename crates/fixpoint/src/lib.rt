@@ -48,6 +48,7 @@ impl Model {
 }
 
 // M and N, of the whole program or of some of its groups.
+// A step counts no rounds, so this is no `Model`; and `Model` has the two sets itself and not this struct, since C reads it with its three fields.
 #[repr(C)]
 #[derive(Clone, Copy)]
 pub struct Values {
@@ -76,6 +77,8 @@ fn entry_holds(e: Entry, d: LitSet, s: LitSet) -> bool
 
 impl<'a> Numbered<'a> {
     // Whether the body of rule r holds over d and s.
+    // `sheet::body_as` has such a loop too and stays apart: it asks something else of an entry, so one function for both would take a function of an entry, and
+    // its clause the law of that function.
     fn body_holds(&self, r: usize, d: LitSet, s: LitSet) -> bool
         ensures { result ≡ every (holds (set_of d.words) (set_of s.words)) (body_of self.now.starts.now self.now.entries.now r) }
     {
@@ -112,6 +115,7 @@ impl<'a> Numbered<'a> {
     }
 
     // The least set that has the start and is closed under the rules that are not shut and that s keeps: passes until one adds nothing.
+    // How many passes there are shows only when one adds nothing, so this is no `for`.
     fn least_closed(&self, start: LitSet, shut: LitSet, s: LitSet) -> LitSet
         ensures { set_of result.words
             ≡ Γ (program (without_heads (set_of shut.words) (rules_by self.now)) (set_of start.words)) (set_of s.words) }
@@ -146,6 +150,7 @@ impl<'a> Numbered<'a> {
 
     // Rounds from `start`, which the first round keeps: Γs with the facts `possible`, and Γ of it with the facts `facts`, until the set stays the same. The
     // round that finds this out is not counted.
+    // How many rounds there are shows only when the set stays the same, so this is no `for`.
     fn settle(&self, start: LitSet, facts: LitSet, possible: LitSet) -> Model
         requires { set_of start.words
             ⊆ round_of (program (rules_by self.now) (set_of facts.words)) (program (rules_by self.now) (set_of possible.words)) (set_of start.words) }
@@ -184,12 +189,14 @@ impl<'a> Numbered<'a> {
 }
 
 // The numbers of the first rules of a table: 0, 1, 2, .. as far as the count.
+// It is a fixed array and the caller has the count, since there is no heap for a Vec.
 fn all_numbers(count: usize) -> [u16; book::MAX_RULES]
     requires { count ≤ max_rules }
     ensures { take count result ≡ rows (λ k. k) 0 count }
 {
     let mut numbers = [0u16; book::MAX_RULES];
     for k in 0..count {
+        // `as` loses nothing, and `try_from` would bring an error that cannot come.
         numbers[k] = k as u16;
     }
     numbers

@@ -139,12 +139,14 @@ fn settle_groups(book: &Book, index: &Index, name: &[u16], group: &[u16], facts:
     ensures { ByGroups book.now.heads book.now.starts book.now.entries index.now.starts index.now.rules
         name.now group.now (set_of facts.words) result }
 {
+    // A fixed array with a count beside it, since there is no heap for a Vec.
     let mut numbers = [0u16; book::MAX_RULES];
     let mut v = Values {
         truths: LitSet::empty(),
         nonfalse: LitSet::empty(),
     };
     let mut p = 0;
+    // A turn goes on by a whole group, whose end is found in the turn, so this is no `for`.
     while p < name.len() {
         let end = group_end(group, p);
         let count = gather(&index.starts, &index.rules, &name[p..end], &mut numbers);

@@ -101,6 +101,9 @@ impl Refusal {
 
 // ---- the lesson
 
+// Shelf and lesson stay two parameters of the calls: a change writes the lesson alone, and the working order has none. The struct of both is the desk, one
+// crate up.
+
 // The facts in force: those put in.
 #[tactic(auto, using(crate::proofs::Replies::force_is))]
 fn in_force(l: &Lesson) -> LitSet

@@ -32,6 +32,9 @@ struct Counts {
 
 // ---- fields: each function writes from `at` on and answers the next place; past the end of the buffer nothing is stored
 
+// Buffer and place stay two parameters: a struct of both is no plainer, since each clause would name two of its fields before the call and two after, in
+// place of `t.old`, `at`, `t.new` and `result`.
+
 // The bytes of s, and the byte `stop` behind them.
 fn put_word(t: &mut [u8], at: usize, s: &[u8], stop: u8) -> usize
     requires { Room (field s.now stop) at }
@@ -44,6 +47,7 @@ fn put_word(t: &mut [u8], at: usize, s: &[u8], stop: u8) -> usize
 }
 
 // A number in decimal digits: those of its tenth, and the last.
+// Each `as` loses nothing, and `try_from` would bring an error that cannot come.
 fn put_digits(t: &mut [u8], at: usize, n: usize) -> usize
     requires { Room (digits n) at }
     ensures { Put (digits n) at t.old t.new result }
@@ -206,6 +210,7 @@ pub fn write(book: &Book, facts: LitSet, marks: Marks, buffer: &mut [u8]) -> Opt
 }
 
 // `refused,NUMBER,LINE`.
+// The number is a `u8` and no enum of faults, since the clause speaks of every number.
 pub fn write_refusal(number: u8, line: usize, buffer: &mut [u8]) -> Option<usize>
     ensures { Writes (refusal_of number line) buffer.old result buffer.new }
 {

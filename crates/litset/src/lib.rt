@@ -13,6 +13,7 @@ pub const WORDS: usize = 4;
 // The literals below this number can be members.
 pub const CAPACITY: usize = 64 * WORDS;
 
+// The words are a fixed array: there is no heap, and C passes a set by value.
 #[repr(C)]
 #[derive(Clone, Copy)]
 pub struct LitSet {
@@ -115,6 +116,7 @@ impl LitSet {
         for (i, word) in self.words.iter().enumerate() {
             let pairs = pairs_in(*word);
             if pairs != 0 {
+                // `as` loses nothing, and `usize` has no `From<u32>`.
                 return Some(32 * i + pairs.trailing_zeros() as usize / 2);
             }
         }
@@ -122,6 +124,7 @@ impl LitSet {
     }
 
     // Whether the two have the same members.
+    // It stays beside `==`: its clause speaks of members, and the must-fail edits equal_any and equal_never speak of this function.
     pub fn equal(self, other: LitSet) -> bool
         ensures { (result ≡ true) ↔ (set_of self.words ≡ set_of other.words) }
     {
@@ -134,6 +137,7 @@ impl LitSet {
     {
         let mut n = 0;
         for word in &self.words {
+            // `as` loses nothing, and `usize` has no `From<u32>`.
             n += word.count_ones() as usize;
         }
         n

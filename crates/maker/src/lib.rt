@@ -16,6 +16,7 @@ use litset::LitSet;
 use sheet::{Sheet, SheetEntry};
 
 // A sheet, and how many entries it has.
+// The count stands beside a fixed array, here and in a draft, since there is no heap for a Vec.
 #[derive(Clone, Copy)]
 pub struct Made {
     pub count: usize,
@@ -34,6 +35,7 @@ struct Draft {
 // ---- the entries for facts and groups
 
 // The entry for a fact, where the kind is 1, or for a literal of a group.
+// Each `as` loses nothing, and `try_from` would bring an error that cannot come.
 fn member_entry(kind: u16, group: u16, literal: usize) -> SheetEntry
     requires { literal < capacity }
     ensures { result ≡ member_entry kind group literal }
@@ -102,6 +104,7 @@ impl Draft {
                 continue;
             }
             let head = book::head_at(&book.heads, r);
+            // Each `as` loses nothing, and `try_from` would bring an error that cannot come.
             let e = SheetEntry {
                 kind: 1,
                 literal: head as u16,
@@ -158,6 +161,7 @@ pub fn make(book: &Book, facts: LitSet, literal: usize, truth: bool) -> Option<M
     loop {
         let derived = fixpoint::gamma_s(book, facts.union(unknown), d.truths);
         let group = all.difference(derived).difference(d.falses);
+        // `as` loses nothing, and `try_from` would bring an error that cannot come.
         let number = d.count as u16;
         d.put_members(group, known, 0, number);
         d.falses = d.falses.union(group);

@@ -16,6 +16,7 @@ pub const WORDS: usize = litset::WORDS / 2;
 // The names below this number can be members.
 pub const NAMES: usize = 64 * WORDS;
 
+// The words are a fixed array, since there is no heap for a Vec.
 #[repr(C)]
 #[derive(Clone, Copy)]
 pub struct NameSet {
@@ -73,6 +74,7 @@ impl NameSet {
     }
 
     // Whether the two have the same members.
+    // It stays beside `==`: its clause speaks of members, and must-fail edits speak of this function.
     pub fn equal(self, other: NameSet) -> bool
         ensures { (result ≡ true) ↔ (set_of self.words ≡ set_of other.words) }
     {
@@ -86,6 +88,7 @@ impl NameSet {
         for (i, word) in self.words.iter().enumerate() {
             let left = word_left(*word, other.words[i]);
             if left != 0 {
+                // `as` loses nothing, and `usize` has no `From<u32>`.
                 return Some(64 * i + left.trailing_zeros() as usize);
             }
         }

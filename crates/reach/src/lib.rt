@@ -18,9 +18,11 @@ use book::{Book, Entry};
 use litset::LitSet;
 
 // The names that a set has room for.
+// A table has a row for each: a fixed array, since there is no heap for a Vec.
 const NAMES: usize = litset::CAPACITY / 2;
 
 // Place p has the name with the number name[p], of the group with the number group[p]; groups count from 0. Places past the names are 0.
+// It is two fixed arrays with counts beside them and no Vec of pairs: there is no heap, and C passes an order by value.
 #[repr(C)]
 #[derive(Clone, Copy)]
 pub struct Order {
@@ -150,6 +152,7 @@ fn settled(done: LitSet, j: usize, whole: LitSet, row: LitSet) -> LitSet
 }
 
 // What name k reaches: the names found until the bodies of all of them are.
+// More names are found while these are gone through, so how many turns there are shows only at the end, and this is no `for`.
 fn reached(table: &[LitSet; NAMES], whole: LitSet, k: usize) -> LitSet
     requires { (length table.now ≡ n_names) × (k < n_names) }
     ensures { ReachedBy table.now (set_of whole.words) k (set_of result.words) }
@@ -203,6 +206,7 @@ fn name_at_turn(names: usize, i: usize, down: bool) -> usize
 }
 
 // Goes through the names below a number, upwards or downwards, and makes rows whole.
+// `down` and `all` are two flags that its one clause reads for all three calls: a closure for the way through the names would need a law of its own in it.
 fn sweep(table: &mut [LitSet; NAMES], whole: LitSet, names: usize, down: bool, all: bool) -> LitSet
     requires { (length table.old ≡ n_names) × (names ≤ n_names) }
     ensures { SweptBy table.old (set_of whole.words) names down all table.new (set_of result.words) }
@@ -267,6 +271,8 @@ fn reaching_by_table(book: &Book, s: LitSet) -> LitSet
 // ---- the next group
 
 // The names of a set that reach name k, from the lowest to the first that does not, with k itself.
+// It goes from member to member and ends at the first that does not reach k. A `for` would go through the numbers of all names and ask of each besides
+// whether it is a member.
 fn meet(table: &[LitSet; NAMES], among: LitSet, k: usize) -> LitSet
     requires { (length table.now ≡ n_names) × (k < n_names) }
     ensures { Met table.now k (set_of among.words) (set_of result.words) }
@@ -296,6 +302,7 @@ struct NextGroup {
 
 // The group that comes next, of those whose names are left. Of the names left that a name reaches all must be of its group. Names of a group that may not
 // come are passed over together, and noted in the row of a name they wait for: until that one is listed they need not be tried again.
+// A turn passes over as many names as were met, so how many turns there are shows only at the end, and this is no `for`.
 fn next_group(
     table: &[LitSet; NAMES],
     left: LitSet,
@@ -337,6 +344,7 @@ fn next_group(
 }
 
 // The names known to wait for a name that is left, once a group is listed: those without the names that wait for one of the group.
+// It goes from member to member of the group. A `for` would go through the numbers of all names and ask of each besides whether it is a member.
 fn release(watch: &[LitSet; NAMES], stuck: LitSet, group: LitSet) -> LitSet
     requires { length watch.now ≡ n_names }
     ensures { Released watch.now (set_of group.words) (set_of stuck.words) (set_of result.words) }
@@ -359,6 +367,7 @@ fn release(watch: &[LitSet; NAMES], stuck: LitSet, group: LitSet) -> LitSet
 // ---- the table
 
 // Puts the names of a group, the lowest first, and the group's number at the places from `at` on. Answers with the place behind them.
+// It goes from member to member. A `for` would go through the numbers of all names and ask of each besides whether it is a member.
 fn put_names(
     group: LitSet,
     number: usize,
@@ -377,6 +386,7 @@ fn put_names(
                 return p;
             }
             Some(k) => {
+                // Each `as` loses nothing, and `try_from` would bring an error that cannot come.
                 name[p] = k as u16;
                 numbers[p] = number as u16;
                 p += 1;
@@ -387,6 +397,7 @@ fn put_names(
 }
 
 // The names below a number in working order.
+// A turn lists a whole group, and how many groups there are shows only when none comes, so this is no `for`.
 fn order_in(book: &Book, names: usize) -> Order
     requires { names ≤ max_names }
     ensures { result ≡ order_table (working_order (rules_of book.now) names) }

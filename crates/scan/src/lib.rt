@@ -114,6 +114,7 @@ pub enum Alphabet {
     EitherCase,
 }
 
+// How a byte of a name counts. It is a function with one call in it, since the must-fail edit digits_folded speaks of it by its name.
 fn small(b: u8) -> u8
     ensures { result ≡ counts_as EitherCase b }
 {

@@ -149,6 +149,7 @@ impl Mark {
 }
 
 // The marks of the literals in T-trees and in TU-trees, and how many nodes have asked their rules.
+// Both tables are fixed arrays, since there is no heap for a Vec.
 #[derive(Clone, Copy)]
 struct State {
     t: [Mark; litset::CAPACITY],
@@ -345,6 +346,8 @@ impl<'a> Walk<'a> {
     }
 
     // ---- the rules and the entries of either tree
+
+    // `kind` is a parameter of all three and there is no closure for each kind: with closures each clause of the cycle would have to be said of them too.
 
     // Whether all children under some rule for `a` hold.
     #[cycle(walk_trees)]

@@ -36,6 +36,7 @@ const NO_ENTRY: SheetEntry = SheetEntry {
 };
 
 // A table of entries. How many of them are the sheet's stands beside it.
+// It is a fixed array, since there is no heap for a Vec.
 #[derive(Clone, Copy)]
 pub struct Sheet {
     pub entries: [SheetEntry; MAX_SHEET],
@@ -108,6 +109,8 @@ fn entry_as(e: Entry, d: LitSet, s: LitSet, want: bool) -> bool
 }
 
 // Whether it is for every entry of the body of rule r. A body is shown where all answers are yes, and a rule left open where all are no.
+// `want` is a value that answers are compared with, and chooses no step. The function takes tables and no `Book`: its clause speaks of tables of any length.
+// It stays apart from `body_holds` of `fixpoint` for the reason that stands there.
 #[tactic(auto, using(book::proofs::Bodies::body_more, book::proofs::Bodies::body_fails, book::proofs::Bodies::body_over))]
 pub fn body_as<'a>(
     starts: &'a [u16],
@@ -360,6 +363,7 @@ impl<'a> Check<'a> {
 }
 
 // The first n entries of a sheet are judged for the claim that a literal is true, or that it is false.
+// The count n stands beside the sheet: C lends a run that may be longer than a sheet holds, and that is rejected by its length.
 #[tactic(auto, using(crate::proofs::Judged::no_entries, crate::proofs::Judged::too_many))]
 pub fn judge(
     book: &Book,

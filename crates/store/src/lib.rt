@@ -12,6 +12,8 @@ fn put<T: Copy>(t: &mut [T], i: usize, v: T)
     }
 }
 
+// The next three stay beside the generic one: the must-fail edits byte_seven_bits, number_low_byte and word_low_half each change what one of them stores by its
+// width, which generic code can't.
 pub fn put8(t: &mut [u8], i: usize, b: u8)
     ensures { t.new ≡ set t.old i b }
 {
