@@ -190,7 +190,7 @@ fn put_refusal(t: &mut [u8], number: u8, line: usize) -> usize
     ensures { Put (refusal_of number line) 0 t.old t.new result }
 {
     let p = put_word(t, 0, b"refused", b',');
-    let q = put_number(t, p, number as usize, b',');
+    let q = put_number(t, p, usize::from(number), b',');
     put_number(t, q, line, b'\n')
 }
 
