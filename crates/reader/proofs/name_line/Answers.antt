@@ -2,10 +2,12 @@
 use mathlib.Core.Path.{◌≡◌, sym, ap, ◌∙◌, subst}
 use Prim.Native.Nat.{◌<◌}
 use native.Mathlib.Omega.{arith}
+use mathlib.Core.List.{[], ◌∷◌, ◌++◌}
 use Rattle.scan.specs.declared.Alphabet.TheVariants.{EitherCase}
 use Rattle.scan.specs.declared.Word.TheVariants.{Name}
 use Rattle.scan.proofs.Names.{name_fits}
 use Rattle.book.specs.Limits.{max_names}
+use Rattle.keys.specs.declared.Names.{Names}
 use Rattle.keys.specs.Keyed.{KeyFor, Keyed}
 use Rattle.keys.proofs.Declared.{keyed_more}
 use Rattle.reader.specs.File.{Content, is_found}
@@ -61,7 +63,7 @@ returns g c =
     record {
       answer = (
         name_fine h.counted c.requires.1 _ fine (ap is_found new) room,
-        name_held h c.args.name.now room (subst (Keyed _) (sym c.put.ensures) (keyed_more h.keyed (key_for g at.After-find) _ (names_held h) room short new)),
+        name_held h c.args.name.now room (subst (λ (t : Names). Keyed (d.names ++ (c.args.name.now ∷ [])) t.keys) (sym c.put.ensures) (keyed_more h.keyed (key_for g at.After-find) _ (names_held h) room short new)),
       );
       stored = λ z. name_stored h c.args.name.now room short c.put_name.ensures;
     }
