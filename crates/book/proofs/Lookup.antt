@@ -1,36 +1,19 @@
--- Laws of parts of a list, and of the look-up of a name. The same name is found at the same place; a name that is not found is found behind the names
+-- Laws of the look-up of a name. The same name is found at the same place; a name that is not found is found behind the names
 -- once it has joined them.
 use mathlib.Core.Path.{◌≡◌, refl, sym, ap, ◌∙◌}
 use mathlib.Core.Bool.{Bool, true, false}
 use mathlib.Core.List.{List, [], ◌∷◌, ◌++◌}
-use Prim.Native.Nat.{ℕ, suc, ◌+◌, ◌-◌, ◌*◌, ◌/◌, ◌≤◌, ◌<◌}
+use Prim.Native.Nat.{ℕ, suc, ◌+◌, ◌-◌, ◌≤◌, ◌<◌}
 use native.Mathlib.Omega.{arith}
 use native.Mathlib.Nat.{add-zero}
 use native.Mathlib.Numerals.{add-one}
-use lib.ListN.{length, take, drop, get_or, length-drop, drop_of_length-le}
-use lib.Seq.{take_all, take-nil}
-use Rattle.scan.specs.Text.{max_length, SameName, same_name}
+use lib.ListN.{length}
+use Rattle.scan.specs.Text.{SameName, same_name}
 use Rattle.scan.specs.declared.Alphabet.{Alphabet}
 use Rattle.scan.proofs.Names.{same_decides, same_self, same_test}
-use Rattle.book.specs.Book.{rows, clamp, name_at, find_from}
+use Rattle.book.specs.Book.{rows, find_from}
 use Rattle.std.specs.Prelude.{None, Some}
 use Rattle.book.proofs.Rows.{rows_step, rows_end}
-
--- ---- a part of a list
-
-module _ (s : List ℕ) (from n : ℕ) where
-  pub part_past : length s ≤ from → [] ≡ take n (drop from s)
-  part_past h = rw (drop_of_length-le s h, take-nil {A = ℕ} n)
-
-  pub part_rest : length s - from ≤ n → take (length s - from) (drop from s) ≡ take n (drop from s)
-  part_rest h = take_all (length s - from) (drop from s) (omega (arith, length-drop from s)) ∙ sym (take_all n (drop from s) (omega (arith, length-drop from s)))
-
-  pub part_inside : take (from + n - from) (drop from s) ≡ take n (drop from s)
-  part_inside = let e : from + n - from ≡ n = omega arith in rw e
-
--- no name begins past the text
-pub name_past : (text lengths : List ℕ) (k : ℕ) → length text / max_length < k → [] ≡ name_at text lengths k
-name_past text lengths k h = part_past text (max_length * k) (clamp max_length (get_or lengths k 0)) (omega arith)
 
 -- ---- a name among names
 

@@ -140,25 +140,6 @@ module _ (rules : List Rule) (r : Rule) where
 
 -- ---- the book of given names and rules
 
--- the tables of no names and no rules are zeros
-pub text_none : text_table [] ≡ replicate (max_length * max_names) 0
-unfolding joined
-text_none = refl
-
-pub lengths_none : length_table [] ≡ replicate max_names 0
-lengths_none = refl
-
-pub heads_none : head_table [] ≡ replicate max_rules 0
-heads_none = refl
-
-pub starts_none : start_table [] ≡ replicate (max_rules + 1) 0
-unfolding starts_from
-starts_none = refl
-
-pub entries_none : entry_table [] ≡ replicate max_entries 0
-unfolding joined
-entries_none = refl
-
 -- the book of some names and rules has their counts and their tables
 pub book_is : (names : List (List ℕ)) (rules : List Rule)
     → record {

@@ -112,9 +112,6 @@ module _ (k : Desk) (o : Outcome) (m : Desk) (number line : ℕ) where
 
 module _ (k : Desk) (o : Outcome) (m : Desk) where
   -- the outcome of a file that was loaded
-  pub load_was_accepted : (r : Result (Unit {0}) Refusal) → LoadsAs k o r m → r ≡ Ok tt → (names : List (List ℕ)) × (rules : List Rule) × (o ≡ accepted names rules)
-  load_was_accepted (Ok done) (b, w, begun) a = (w.names, w.rules, w.outcome)
-  load_was_accepted (Err f) h a = absurd (ok_or_err tt f (sym a))
 
 load_exists : (k : Desk) (file : List ℕ) → (r : Result (Unit {0}) Refusal × Desk) × LoadsAs k (read_file EitherCase file) r.0 r.1
 load_exists k file = let w = loaded_exists file in go w.0 w.1

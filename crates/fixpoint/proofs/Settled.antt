@@ -2,7 +2,7 @@
 -- round has those facts, so the rounds begin and stay inside every fixpoint. The step's program holds its facts twice over, which supports the same.
 use mathlib.Core.Path.{◌≡◌, sym, ◌∙◌, ap}
 use mathlib.Core.Logic.{⊎_elim}
-use mathlib.Core.Bool.{Bool, false≢true, ◌||◌, or_assoc}
+use mathlib.Core.Bool.{Bool, ◌||◌, or_assoc}
 use mathlib.Core.List.{List}
 use Prim.Native.Nat.{ℕ, suc, ◌<◌}
 use native.Mathlib.Nat.{le_of_eq}
@@ -28,9 +28,6 @@ use Rattle.fixpoint.specs.declared.Model.{Model}
 use Rattle.fixpoint.specs.declared.Values.{Values}
 
 -- ---- the whole model
-
-pub starts_empty : {X : Set} → X ≡ ∅ → (U : Set) → X ⊆ U
-starts_empty e U A a = absurd (false≢true (rw e at a))
 
 pub model_settled : (P : Program) (m : Model) → SettledFrom P P ∅ m → ModelOf P m
 model_settled P m s = record { truths = truths; nonfalse = s.nonfalse ∙ ap (Γs P) truths ∙ sym (N-is P); rounds = least }

@@ -1,31 +1,20 @@
 -- The form of a field: `~` is looked for at the first place, `-` behind it, and the name is what is left. A field is a literal exactly where that is a
--- name, so the form tells whether it is, and how many `~` stand before it.
+-- name, so the form tells whether it is.
 use mathlib.Core.Path.{◌≡◌, refl, sym, ap, ap₂, ◌∙◌}
 use mathlib.Core.Bool.{Bool, true, false, cond}
 use mathlib.Core.List.{List, [], ◌∷◌}
-use Prim.Native.Nat.{ℕ, ◌+◌, ◌-◌, ◌≤◌, ◌<◌}
+use Prim.Native.Nat.{ℕ, ◌+◌, ◌-◌, ◌≤◌}
 use native.Mathlib.Omega.{arith}
-use lib.ListN.{length, get_or, take, drop, length-drop, drop_of_length-le}
+use lib.ListN.{length, take, drop, length-drop}
 use lib.Seq.{take_all, drop-drop}
 use lib.Dec.{eqb}
-use borrow.Author.Tests.{eq-eqb, ne_eqb}
 use Rattle.scan.specs.Text.{is_name, lead, tildes, minuses, name_of, form_of}
 use Rattle.scan.specs.declared.Alphabet.{Alphabet}
 use Rattle.std.specs.Prelude.{Option, None, Some}
 use Rattle.std.specs.Option.{is_some}
 use Rattle.scan.specs.declared.Marks.{Marks}
-use Rattle.scan.proofs.Places.{left_at}
 
 -- ---- `~` and `-`
-
-pub lead_here : (b : ℕ) (s : List ℕ) (at : ℕ) → at < length s → get_or s at 0 ≡ b → lead b (drop at s) ≡ 1
-lead_here b s at h e = rw (left_at s at h, eq-eqb (get_or s at 0) b e)
-
-pub lead_other : (b : ℕ) (s : List ℕ) (at : ℕ) → at < length s → (get_or s at 0 ≡ b → ⊥) → lead b (drop at s) ≡ 0
-lead_other b s at h e = rw (left_at s at h, ne_eqb (get_or s at 0) b e)
-
-pub lead_end : (b : ℕ) (s : List ℕ) (at : ℕ) → length s ≤ at → lead b (drop at s) ≡ 0
-lead_end b s at h = rw (drop_of_length-le s h)
 
 -- at most one `~` and one `-`
 pub lead_most : (b : ℕ) (s : List ℕ) → lead b s ≤ 1
@@ -53,7 +42,7 @@ module _ (f : List ℕ) (m : Marks) (ea : m.tildes ≡ tildes f) (eb : m.minuses
     unfolding form_of
     form_literal h = rw (ap (is_name α) name_from ∙ h) (ap₂ {C = Option Marks} (λ (x y : ℕ). Some (record { tildes = x; minuses = y })) (sym ea) (sym eb))
 
--- ---- the name and the `~` by the form
+-- ---- whether there is a form
 
 module _ (α : Alphabet) (f : List ℕ) where
   -- the marks that the field has
@@ -68,26 +57,3 @@ module _ (α : Alphabet) (f : List ℕ) where
       go : (t : Bool) → is_some (cond t (Some own) None) ≡ t
       go true = refl
       go false = refl
-
-  pub malformed_form : form_of α f ≡ None → is_name α (name_of f) ≡ false
-  unfolding form_of
-  malformed_form = go (is_name α (name_of f))
-    where
-      go : (t : Bool) → cond t (Some own) None ≡ None → t ≡ false
-      go true e = cc
-      go false e = refl
-
-  module _ (m : Marks) (e : form_of α f ≡ Some m) where
-    parts : (is_name α (name_of f) ≡ true) × (tildes f ≡ m.tildes)
-    unfolding form_of
-    parts = go (is_name α (name_of f)) e
-      where
-        go : (t : Bool) → cond t (Some own) None ≡ Some m → (t ≡ true) × (tildes f ≡ m.tildes)
-        go true q = (refl, cc)
-        go false q = (cc, cc)
-
-    pub literal_form : is_name α (name_of f) ≡ true
-    literal_form = parts.0
-
-    pub form_tildes : tildes f ≡ m.tildes
-    form_tildes = parts.1
