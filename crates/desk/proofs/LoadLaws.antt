@@ -110,9 +110,6 @@ module _ (k : Desk) (o : Outcome) (m : Desk) (number line : ℕ) where
   load_kept (Ok done) h e = absurd (ok_or_err done e.0 e.1)
   load_kept (Err f) h e = h.1
 
-module _ (k : Desk) (o : Outcome) (m : Desk) where
-  -- the outcome of a file that was loaded
-
 load_exists : (k : Desk) (file : List ℕ) → (r : Result (Unit {0}) Refusal × Desk) × LoadsAs k (read_file EitherCase file) r.0 r.1
 load_exists k file = let w = loaded_exists file in go w.0 w.1
   where
