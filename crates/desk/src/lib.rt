@@ -1,4 +1,4 @@
-// The desk: one book on its shelf and one lesson beside it, by value. The calls on its lesson are those of `lesson`; a load is the desk's own, since
+// The desk: one book on its shelf and one lesson beside it. The calls on its lesson are those of `lesson`; a load is the desk's own, since
 // it changes both. A list of calls on a desk is what the demands of document 01 are about (specs/Runs.antt).
 #![tactic(auto)]
 
@@ -16,7 +16,7 @@ pub struct Desk {
     pub lesson: Lesson,
 }
 
-// A desk whose lesson begins on this book; `loaded` 0 says that there is none.
+// A desk whose lesson begins on this book; `loaded` 0 says that there is none. It is the number of the shelf, which C passes, and so no bool.
 fn begun(loaded: u8, book: Book) -> Desk
     ensures { Begun loaded book result }
 {

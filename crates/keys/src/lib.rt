@@ -19,6 +19,8 @@ fn hint_place(key: Key) -> usize
     ((key.first ^ key.second) % MAX_HINTS as u64) as usize
 }
 
+// `find` and `put` take tables of any length, as their clauses say; `Names` has the two of a file.
+
 // The number of the name with the key among the first `count`. Whatever the hints say, the names that they lead to are compared by their keys.
 pub fn find(keys: &[Key], hints: &[u8], count: usize, key: Key) -> Option<usize>
     ensures { LookedUp keys.now count key result }
@@ -36,18 +38,13 @@ pub fn put(keys: &mut [Key], hints: &mut [u8], k: usize, key: Key)
     ensures { (keys.new ≡ put_key keys.old k key) × (hints.new ≡ put_hint hints.old k key) }
 {
     if k < book::MAX_NAMES {
-        if k < keys.len() {
-            keys[k] = key;
-        }
-        let place = hint_place(key);
-        if place < hints.len() {
-            // As in `hint_place`, `as` loses nothing.
-            hints[place] = k as u8;
-        }
+        store::put(keys, k, key);
+        // As in `hint_place`, `as` loses nothing.
+        store::put(hints, hint_place(key), k as u8);
     }
 }
 
-// The names that are declared: the keys in the order of their numbers, and the hints.
+// The names that are declared: the keys in the order of their numbers, and the hints. The two arrays are not parallel: a hint stands where its key leads.
 #[derive(Clone, Copy)]
 pub struct Names {
     keys: [Key; book::MAX_NAMES],

@@ -50,7 +50,8 @@ pub struct WholeModel {
     pub contradictory: bool,
 }
 
-// M and N, worked out group by group, and whether the lesson is contradictory.
+// M and N, worked out group by group, and whether the lesson is contradictory. It stays apart from `WholeModel`: one struct for both would have one name for
+// what the clauses call `model` and `values`.
 #[derive(Clone, Copy)]
 pub struct ModelByGroups {
     pub values: Values,

@@ -34,7 +34,7 @@ struct Draft {
 
 // ---- the entries for facts and groups
 
-// The entry for a fact, where the kind is 1, or for a literal of a group.
+// The entry for a fact, where the kind is 1, or for a literal of a group. The kind is the number that an entry has, here and in `put_members`.
 // Each `as` loses nothing, and `try_from` would bring an error that cannot come.
 fn member_entry(kind: u16, group: u16, literal: usize) -> SheetEntry
     requires { literal < capacity }

@@ -24,6 +24,8 @@ use reader::Sizes;
 use search::Tree;
 use sheet::SheetEntry;
 
+// The replies: C passes each by value, with its own layout, and has no Result, so each is a number with the values beside it.
+
 #[repr(C)]
 #[derive(Clone, Copy)]
 pub struct SizeReply {
@@ -182,7 +184,7 @@ pub extern "C" fn mezhkura_load(desk: Desk, file: &[u8]) -> LoadReply
     }
 }
 
-// ---- putting in and taking out
+// ---- putting in and taking out: C calls each by its name
 
 fn changed(desk: Desk, change: Change) -> ChangeReply
     ensures { ChangeIn desk.shelf (Changes desk.shelf desk.lesson change) result }
@@ -234,7 +236,7 @@ pub extern "C" fn mezhkura_verdict(desk: Desk, literal: usize) -> VerdictReply
 
 // ---- search
 
-// 0 is T, every other number TU. (`From` can't stand here, since neither type is of this crate.)
+// 0 is T, every other number TU. It is a function and no `From`, which would have to stand in `search`: the numbers of C are known in this crate alone.
 fn kind_of(tree: u8) -> Tree
     ensures { result ≡ kind_of tree }
 {
@@ -350,7 +352,7 @@ pub extern "C" fn mezhkura_listing(desk: Desk, buffer: &mut [u8]) -> ListingRepl
     listing_reply(lesson::listing(&desk.shelf, &desk.lesson, buffer))
 }
 
-// ---- preview
+// ---- preview: C calls each by its name
 
 fn previewed(desk: &Desk, change: Change, buffer: &mut [u8]) -> ListingReply
     ensures { ListingIn (λ a. Previews desk.now.shelf desk.now.lesson change buffer.old a buffer.new) result }

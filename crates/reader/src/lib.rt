@@ -41,6 +41,7 @@ impl Fault {
     pub fn number(self) -> u8
         ensures { result ≡ number_of self }
     {
+        // `as` is how an enum with numbers gives its number.
         self as u8
     }
 }

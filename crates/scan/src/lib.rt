@@ -72,7 +72,6 @@ fn is_text(b: u8) -> bool
 }
 
 // Whether every byte may stand in a file.
-
 pub fn all_text(s: &[u8]) -> bool
     ensures { result ≡ all_bytes is_text s.now }
 {

@@ -289,9 +289,8 @@ impl<'a> Walk<'a> {
 
     // ---- TU-trees
 
-    // The TU-trees for a literal. A T-tree that one of them waits for is opened from here, and the walk begun again with what is then known (how often
-    // shows only at the end, so this is no `for`): so
-    // no path of a TU-tree stands above a T-tree, and the stack is linear in the literals.
+    // The TU-trees for a literal. A T-tree that one of them waits for is opened from here, and the walk begun again with what is then known: so no path of
+    // a TU-tree stands above a T-tree, and the stack is linear in the literals. How often it is begun shows only at the end, so this is no `for`.
     #[cycle(walk_trees)]
     fn tu_search(&self, s: &mut State, a: usize) -> bool
         requires { (a < capacity) × Ready (program_in self.now) T (coded s.old) 0 }

@@ -64,9 +64,7 @@ pub fn entry_at(table: &[SheetEntry], i: usize) -> SheetEntry
 pub fn put_entry(table: &mut [SheetEntry], i: usize, e: SheetEntry)
     ensures { table.new ≡ set table.old i e }
 {
-    if i < table.len() {
-        table[i] = e;
-    }
+    store::put(table, i, e);
 }
 
 // ---- the check
@@ -171,7 +169,7 @@ struct Group {
     members: LitSet,
 }
 
-// Whether an entry is of the kind and for the literal.
+// Whether an entry is of the kind and for the literal. The kind is the number that an entry has, here and in `Check::has`.
 fn is_claim(e: SheetEntry, kind: u16, literal: usize) -> bool
     ensures { result ≡ (eqb e.kind kind && eqb literal e.literal) }
 {

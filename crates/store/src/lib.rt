@@ -4,7 +4,8 @@
 ghost use Rattle.std.specs.Prelude.{◌≡◌, set};
 ghost use Rattle.std.proofs.lemmas.List.Edits.{sets};
 
-fn put<T: Copy>(t: &mut [T], i: usize, v: T)
+// A value of whatever type at place i.
+pub fn put<T: Copy>(t: &mut [T], i: usize, v: T)
     ensures { t.new ≡ set t.old i v }
 {
     if i < t.len() {
