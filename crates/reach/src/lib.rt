@@ -91,7 +91,7 @@ fn names_below(names: usize) -> LitSet
 
 // Row k of a table.
 fn row_at(table: &[LitSet; NAMES], k: usize) -> LitSet
-    requires { (length table.now ≡ n_names) × (k < n_names) }
+    requires { k < n_names }
     ensures { set_of result.words ≡ row_set table.now k }
 {
     table[k]
@@ -108,7 +108,7 @@ fn name_in(e: Entry) -> usize
 
 // Row k with the names in the body of rule r added.
 fn add_names(book: &Book, r: usize, table: &mut [LitSet; NAMES], k: usize)
-    requires { (length table.old ≡ n_names) × (k < n_names) }
+    requires { k < n_names }
     ensures { Put table.old k
         (row_set table.old k ∪ literals_of (mentioned (body_of book.now.starts book.now.entries r))) table.new }
 {
@@ -154,7 +154,7 @@ fn settled(done: LitSet, j: usize, whole: LitSet, row: LitSet) -> LitSet
 // What name k reaches: the names found until the bodies of all of them are.
 // More names are found while these are gone through, so how many turns there are shows only at the end, and this is no `for`.
 fn reached(table: &[LitSet; NAMES], whole: LitSet, k: usize) -> LitSet
-    requires { (length table.now ≡ n_names) × (k < n_names) }
+    requires { k < n_names }
     ensures { ReachedBy table.now (set_of whole.words) k (set_of result.words) }
 {
     let mut found = with_name(LitSet::empty(), k);
@@ -175,7 +175,7 @@ fn reached(table: &[LitSet; NAMES], whole: LitSet, k: usize) -> LitSet
 
 // Whether the bodies of name k's rules speak of k and of names with whole rows alone: then its row is soon found. Any answer would be right.
 fn is_soon_found(table: &[LitSet; NAMES], whole: LitSet, k: usize) -> bool
-    requires { (length table.now ≡ n_names) × (k < n_names) }
+    requires { k < n_names }
 {
     let known = with_name(whole, k);
     known.union(row_at(table, k)).equal(known)
@@ -183,7 +183,7 @@ fn is_soon_found(table: &[LitSet; NAMES], whole: LitSet, k: usize) -> bool
 
 // Makes row k whole, where it is not yet and is soon found or wanted by all means. Answers with the names whose rows are whole.
 fn complete(table: &mut [LitSet; NAMES], whole: LitSet, k: usize, all: bool) -> LitSet
-    requires { (length table.old ≡ n_names) × (k < n_names) }
+    requires { k < n_names }
     ensures { Completed table.old (set_of whole.words) k all table.new (set_of result.words) }
 {
     if whole.contains(2 * k) {
@@ -208,7 +208,7 @@ fn name_at_turn(names: usize, i: usize, down: bool) -> usize
 // Goes through the names below a number, upwards or downwards, and makes rows whole.
 // `down` and `all` are two flags that its one clause reads for all three calls: a closure for the way through the names would need a law of its own in it.
 fn sweep(table: &mut [LitSet; NAMES], whole: LitSet, names: usize, down: bool, all: bool) -> LitSet
-    requires { (length table.old ≡ n_names) × (names ≤ n_names) }
+    requires { names ≤ n_names }
     ensures { SweptBy table.old (set_of whole.words) names down all table.new (set_of result.words) }
 {
     let mut found = whole;
@@ -247,7 +247,7 @@ fn with_reaching(found: LitSet, more: LitSet, row: LitSet, s: LitSet) -> LitSet
 
 // The names below a number whose rows have a name with both literals in a set.
 fn rows_having(table: &[LitSet; NAMES], names: usize, s: LitSet) -> LitSet
-    requires { (length table.now ≡ n_names) × (names ≤ n_names) }
+    requires { names ≤ n_names }
     ensures { RowsHaving table.now names (set_of s.words) (set_of result.words) }
 {
     let mut found = LitSet::empty();
@@ -274,7 +274,7 @@ fn reaching_by_table(book: &Book, s: LitSet) -> LitSet
 // It goes from member to member and ends at the first that does not reach k. A `for` would go through the numbers of all names and ask of each besides
 // whether it is a member.
 fn meet(table: &[LitSet; NAMES], among: LitSet, k: usize) -> LitSet
-    requires { (length table.now ≡ n_names) × (k < n_names) }
+    requires { k < n_names }
     ensures { Met table.now k (set_of among.words) (set_of result.words) }
 {
     let mut met = with_name(LitSet::empty(), k);
@@ -309,7 +309,6 @@ fn next_group(
     stuck: LitSet,
     watch: &mut [LitSet; NAMES],
 ) -> NextGroup
-    requires { (length table.now ≡ n_names) × (length watch.old ≡ n_names) }
     ensures { NextBy table.now (set_of left.words) watch.old (set_of stuck.words)
         watch.new (set_of result.stuck.words) (set_of result.group.words) }
 {
@@ -346,7 +345,6 @@ fn next_group(
 // The names known to wait for a name that is left, once a group is listed: those without the names that wait for one of the group.
 // It goes from member to member of the group. A `for` would go through the numbers of all names and ask of each besides whether it is a member.
 fn release(watch: &[LitSet; NAMES], stuck: LitSet, group: LitSet) -> LitSet
-    requires { length watch.now ≡ n_names }
     ensures { Released watch.now (set_of group.words) (set_of stuck.words) (set_of result.words) }
 {
     let mut out = stuck;

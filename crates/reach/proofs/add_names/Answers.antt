@@ -21,7 +21,7 @@ with_name-row-requires c =
 pub loop-j-preserved : goal.loop-j-preserved
 loop-j-preserved c =
     let end = c.body_end-end.ensures in
-    let inside : c.args.k < length c.loop-j.table = omega (arith, c.loop-j.invariant.size, c.requires.0, c.requires.1) in
+    let inside : c.args.k < length c.loop-j.table = omega (arith, c.loop-j.invariant.size, c.told-table, c.requires) in
     adding_more _ _ _ _ _ c.loop-j.invariant _ _ (omega arith) (c.name_in-name.ensures ∙ ap name_in c.entry_at.ensures)
     (row_changed _ _ _ _ inside (c.with_name-row.ensures ∙ ap (with_name c.name_in-name.result) c.row_at.ensures))
 

@@ -14,4 +14,4 @@ pub returns-then-all-is_soon_found : goal.returns-then-all-is_soon_found
 returns-then-all-is_soon_found c = record { swept = swept_none _ _; has = λ e. absurd (clash e (not-true _ (and_l _ _ c.if-all-is_soon_found.true))) }
 
 pub returns : goal.returns
-returns c = completed _ _ _ _ _ _ _ c.reached-row.ensures (row_put _ _ _ (omega (arith, c.requires.0, c.requires.1))) c.with_name.ensures
+returns c = completed _ _ _ _ _ _ _ c.reached-row.ensures (row_put _ _ _ (omega (arith, c.told-table, c.requires))) c.with_name.ensures

@@ -10,7 +10,7 @@ loop-r-init c = drawn_none _ _ _ _ _ c.empty-table.ensures
 pub add_names-requires : goal.add_names-requires
 add_names-requires c =
     let head = c.name_for-k.ensures in
-    (c.loop-r.invariant.size, omega (arith, head_below c.args.book.now.heads c.loop-r.r))
+    omega (arith, head_below c.args.book.now.heads c.loop-r.r)
 
 pub loop-r-preserved : goal.loop-r-preserved
 loop-r-preserved c =

@@ -16,7 +16,7 @@ pub returns-in-None : goal.returns-in-None
 returns-in-None c = gathered_all _ _ _ _ _ c.loop-met.invariant c.difference.ensures (lowest_of _ (member_room _ (search rules)) _ c.lowest_both.ensures None c.in-None.is)
 
 pub row_at-requires : goal.row_at-requires
-row_at-requires c = (c.requires.0, (lowest_of _ (member_room _ (search rules)) _ c.lowest_both.ensures _ c.in-Some.is).2)
+row_at-requires c = (lowest_of _ (member_room _ (search rules)) _ c.lowest_both.ensures _ c.in-Some.is).2
 
 pub returns-then-not-contains : goal.returns-then-not-contains
 returns-then-not-contains c =

@@ -22,10 +22,10 @@ pub returns-in-None : goal.returns-in-None
 returns-in-None c = noted_all _ _ _ _ _ _ _ c.loop-k.invariant c.difference.ensures (lowest_of _ (member_room _ (search rules)) _ c.lowest_both.ensures None c.in-None.is) _ c.empty.ensures
 
 pub row_at-row-requires : goal.row_at-row-requires
-row_at-row-requires c = (c.requires.0, (lowest_of _ (member_room _ (search rules)) _ c.lowest_both.ensures _ c.in-Some.is).2)
+row_at-row-requires c = (lowest_of _ (member_room _ (search rules)) _ c.lowest_both.ensures _ c.in-Some.is).2
 
 pub meet-met-requires : goal.meet-met-requires
-meet-met-requires c = (c.requires.0, (lowest_of _ (member_room _ (search rules)) _ c.lowest_both.ensures _ c.in-Some.is).2)
+meet-met-requires c = (lowest_of _ (member_room _ (search rules)) _ c.lowest_both.ensures _ c.in-Some.is).2
 
 pub returns-in-None-lowest_both : goal.returns-in-None-lowest_both
 returns-in-None-lowest_both c =
@@ -34,7 +34,7 @@ returns-in-None-lowest_both c =
     (c.difference-among.ensures ∙ ap (λ (S : Set). row ∖ S) c.difference-in-Some.ensures) c.meet-met.ensures _ c.difference-in-Some-2.ensures (lowest_of _ (member_room _ (search rules)) _ c.lowest_both-in-Some.ensures None c.in-None-lowest_both.is)
 
 pub row_at-requires : goal.row_at-requires
-row_at-requires c = (c.loop-k.invariant.size ∙ c.requires.1, (lowest_of _ (member_room _ (search rules)) _ c.lowest_both-in-Some.ensures _ c.in-Some-lowest_both.is).2)
+row_at-requires c = (lowest_of _ (member_room _ (search rules)) _ c.lowest_both-in-Some.ensures _ c.in-Some-lowest_both.is).2
 
 pub offset_bounds-watch-j : goal.offset_bounds-watch-j
 offset_bounds-watch-j c =
@@ -46,7 +46,7 @@ bounds-watch-j c = (lowest_of _ (member_room _ (search rules)) _ c.lowest_both-i
 
 pub loop-k-preserved : goal.loop-k-preserved
 loop-k-preserved c =
-    let inside : c.in-Some-lowest_both.j < length c.loop-k.watch = omega (arith, c.loop-k.invariant.size, c.requires.1, (lowest_of _ (member_room _ (search rules)) _ c.lowest_both-in-Some.ensures _ c.in-Some-lowest_both.is).2) in
+    let inside : c.in-Some-lowest_both.j < length c.loop-k.watch = omega (arith, c.loop-k.invariant.size, c.told-watch, (lowest_of _ (member_room _ (search rules)) _ c.lowest_both-in-Some.ensures _ c.in-Some-lowest_both.is).2) in
     let row = set_of c.row_at-row.result.words in
     noted_more _ _ _ _ _ _ _ c.loop-k.invariant c.difference.ensures _ (lowest_of _ (member_room _ (search rules)) _ c.lowest_both.ensures _ c.in-Some.is) row _ _ c.row_at-row.ensures
     (c.difference-among.ensures ∙ ap (λ (S : Set). row ∖ S) c.difference-in-Some.ensures) c.meet-met.ensures _ c.difference-in-Some-2.ensures _ (lowest_of _ (member_room _ (search rules)) _ c.lowest_both-in-Some.ensures _ c.in-Some-lowest_both.is)

@@ -7,9 +7,6 @@ use Rattle.reach.proofs.order_in.Goals as goal
 pub loop-table-init : goal.loop-table-init
 loop-table-init c = listing_start _ _ c.requires _ _ _ c.names_below-left.ensures c.empty-stuck.ensures c.empty-watch.ensures
 
-pub next_group-next-requires : goal.next_group-next-requires
-next_group-next-requires c = (c.reach_table-table.ensures.size, c.loop-table.invariant.waiting.size)
-
 pub returns-then-equal : goal.returns-then-equal
 returns-then-equal c =
     let s = c.loop-table.invariant in
@@ -20,9 +17,6 @@ pub put_names-at-requires : goal.put_names-at-requires
 put_names-at-requires c =
     let f = (some_found _ _ _ _ _ _ _ _ _ c.loop-table.invariant c.requires _ (c.next_group-next.ensures.is _ _ _ (listing_waits _ _ _ _ _ _ _ _ _ c.loop-table.invariant c.requires _ c.reach_table-table.ensures) c.loop-table.invariant.waiting) (λ e. clash (c.equal.ensures.1 (e ∙ sym c.empty.ensures)) c.if-equal.false)) in
     listing_fits _ _ _ _ _ _ _ _ _ c.loop-table.invariant c.requires f.leader f.comes f.lowest _ f.names_are
-
-pub release-stuck-requires : goal.release-stuck-requires
-release-stuck-requires c = c.next_group-next.ensures.noted.size ∙ c.loop-table.invariant.waiting.size
 
 pub overflow_add-groups : goal.overflow_add-groups
 overflow_add-groups c =

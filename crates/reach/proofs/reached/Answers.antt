@@ -13,7 +13,7 @@ pub returns-in-None : goal.returns-in-None
 returns-in-None c = grown_end _ _ _ _ _ _ c.loop-found.invariant c.difference.ensures (lowest_of _ (member_room _ (search rules)) _ c.lowest_both.ensures None c.in-None.is)
 
 pub row_at-row-requires : goal.row_at-row-requires
-row_at-row-requires c = (c.requires.0, (lowest_of _ (member_room _ (search rules)) _ c.lowest_both.ensures _ c.in-Some.is).2)
+row_at-row-requires c = (lowest_of _ (member_room _ (search rules)) _ c.lowest_both.ensures _ c.in-Some.is).2
 
 pub settled-done-requires : goal.settled-done-requires
 settled-done-requires c = (lowest_of _ (member_room _ (search rules)) _ c.lowest_both.ensures _ c.in-Some.is).2

@@ -16,7 +16,7 @@ pub returns-in-None : goal.returns-in-None
 returns-in-None c = releasing_end _ _ _ _ c.loop-out.invariant _ _ c.difference.ensures (lowest_of _ (member_room _ (search rules)) _ c.lowest_both.ensures None c.in-None.is)
 
 pub row_at-requires : goal.row_at-requires
-row_at-requires c = (c.requires, (lowest_of _ (member_room _ (search rules)) _ c.lowest_both.ensures _ c.in-Some.is).2)
+row_at-requires c = (lowest_of _ (member_room _ (search rules)) _ c.lowest_both.ensures _ c.in-Some.is).2
 
 pub with_name-done-requires : goal.with_name-done-requires
 with_name-done-requires c = (lowest_of _ (member_room _ (search rules)) _ c.lowest_both.ensures _ c.in-Some.is).2

@@ -3,4 +3,4 @@ use Rattle.reach.proofs.Rows.{row_is}
 use Rattle.reach.proofs.row_at.Goals as goal
 
 pub returns : goal.returns
-returns c = row_is c.args.table.now c.args.k _ (omega (arith, c.requires.0, c.requires.1))
+returns c = row_is c.args.table.now c.args.k _ (omega (arith, c.told-table, c.requires))
