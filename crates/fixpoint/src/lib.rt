@@ -202,7 +202,8 @@ fn all_numbers(count: usize) -> [u16; book::MAX_RULES]
     numbers
 }
 
-// Γ(s) of a book and the facts put in.
+// Γ(s) of a book and the facts put in. The rules with their numbers are written out here, in `gamma_s` and in `model_of`: a function for them would have the same
+// four fields in its clause.
 pub fn gamma(book: &Book, facts: LitSet, s: LitSet) -> LitSet
     ensures { set_of result.words ≡ Γ (program_of book.now (set_of facts.words)) (set_of s.words) }
 {

@@ -61,7 +61,8 @@ fn first_literal(name: u16) -> usize
     2 * usize::from(name)
 }
 
-// Puts the numbers from one place to another of a table into `numbers` from place `at` on. Answers with the place behind them.
+// Puts the numbers from one place to another of a table into `numbers` from place `at` on. Answers with the place behind them. There is no `copy_from_slice`:
+// where the end lies before the beginning there is nothing to copy, and a part of a slice with such ends is refused.
 fn copy_run(rules: &[u16], from: usize, end: usize, numbers: &mut [u16], at: usize) -> usize
     requires { (end ≤ length rules.now) × (at + (end - from) ≤ length numbers.old) }
     ensures { Copied rules.now from end numbers.old at result numbers.new }

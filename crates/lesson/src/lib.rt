@@ -311,6 +311,7 @@ pub fn listing(s: &Shelf, l: &Lesson, buffer: &mut [u8]) -> Result<usize, Refusa
     ensures { Lists s.now l.now buffer.old result buffer.new }
 {
     check_loaded(s)?;
+    // The two arms stand here in place of `ok_or`: a must-fail edit changes each of them.
     match lister::write(&s.book, in_force(l), l.marks, buffer) {
         Some(n) => Ok(n),
         None => Err(Refusal::TooShort),

@@ -33,7 +33,8 @@ struct Counts {
 // ---- fields: each function writes from `at` on and answers the next place; past the end of the buffer nothing is stored
 
 // Buffer and place stay two parameters: a struct of both is no plainer, since each clause would name two of its fields before the call and two after, in
-// place of `t.old`, `at`, `t.new` and `result`.
+// place of `t.old`, `at`, `t.new` and `result`. Each needs room for what it writes, which is another thing in each: `Room` is the one name for it.
+// Digits and words are written here and not by Display: there is no heap, and the clauses speak of bytes.
 
 // The bytes of s, and the byte `stop` behind them.
 fn put_word(t: &mut [u8], at: usize, s: &[u8], stop: u8) -> usize

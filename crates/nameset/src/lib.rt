@@ -32,7 +32,7 @@ impl NameSet {
         }
     }
 
-    // The names below a number, as far as there is room for them.
+    // The names below a number, as far as there is room for them. `LitSet::from` has those from a number on.
     pub fn below(n: usize) -> NameSet
         ensures { set_of result.words ≡ below n }
     {

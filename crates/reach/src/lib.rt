@@ -293,7 +293,7 @@ fn meet(table: &[LitSet; NAMES], among: LitSet, k: usize) -> LitSet
     }
 }
 
-// The group that comes next, empty where there is none, and names known to wait.
+// The group that comes next, and names known to wait. Where none comes the group is the empty set, as the look for it ends: an Option would say that twice.
 #[derive(Clone, Copy)]
 struct NextGroup {
     group: LitSet,

@@ -149,7 +149,7 @@ impl Mark {
 }
 
 // The marks of the literals in T-trees and in TU-trees, and how many nodes have asked their rules.
-// Both tables are fixed arrays, since there is no heap for a Vec.
+// Both tables are fixed arrays, since there is no heap for a Vec. They stay two: a node of one kind of tree reads and writes its own.
 #[derive(Clone, Copy)]
 struct State {
     t: [Mark; litset::CAPACITY],
@@ -159,7 +159,6 @@ struct State {
 
 // Each mark `from` of a table becomes `to`.
 fn turn(marks: &mut [Mark; litset::CAPACITY], from: Mark, to: Mark)
-    requires { length marks.old ≡ capacity }
     ensures { marks.new ≡ map (turned_mark from to) marks.old }
 {
     for i in 0..litset::CAPACITY {
@@ -180,7 +179,7 @@ impl State {
 
     // The node of a T-tree is left: its literal is no ancestor any more. Where it holds, what failed or was held below it may not be so above it.
     fn leave_t(&mut self, a: usize, f: Finding)
-        requires { (a < capacity) × ((length self.old.t ≡ capacity) × (length self.old.u ≡ capacity)) }
+        requires { a < capacity }
         ensures { coded self.new ≡ state (t_left f a (coded self.old).t) (held_left f (coded self.old).u) self.old.visits }
     {
         match f {
@@ -197,7 +196,7 @@ impl State {
 
     // The node of a TU-tree is left: its literal is not on the path any more. Where it holds, what failed below it may not fail above it.
     fn leave_u(&mut self, a: usize, f: Finding)
-        requires { (a < capacity) × (length self.old.u ≡ capacity) }
+        requires { a < capacity }
         ensures { coded self.new ≡ state (coded self.old).t (u_left f a (coded self.old).u) self.old.visits }
     {
         match f {
@@ -260,6 +259,8 @@ impl<'a> Walk<'a> {
     }
 
     // ---- T-trees
+
+    // What each function of the cycle needs of the state is one name, `Ready`. It is no invariant of `State`, since it speaks of the walk and of the kind too.
 
     // A node of a T-tree. A literal that fails leaves all that was found below it true, and one that holds is kept for good.
     #[cycle(walk_trees)]

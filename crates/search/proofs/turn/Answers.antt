@@ -12,9 +12,9 @@ loop-i-init c = record { room = refl; done = λ A h. absurd (omega arith); left 
 pub loop-i-preserved : goal.loop-i-preserved
 loop-i-preserved c =
     let inv = c.loop-i.invariant in
-    filled_more _ _ _ _ _ inv (omega (arith, c.requires, inv.room)) _ (c.turned.ensures ∙ ap (turned_mark _ _) (inv.left c.loop-i.i (omega arith)))
+    filled_more _ _ _ _ _ inv (omega (arith, c.told-marks, inv.room)) _ (c.turned.ensures ∙ ap (turned_mark _ _) (inv.left c.loop-i.i (omega arith)))
 
 pub returns : goal.returns
 returns c =
     let g = turned_mark c.args.from c.args.to in
-    filled_is _ _ _ _ _ c.loop-i.invariant (omega (arith, c.requires)) _ (length-map c.args.marks.now g) (map_at Unknown g c.args.marks.now)
+    filled_is _ _ _ _ _ c.loop-i.invariant (omega (arith, c.told-marks)) _ (length-map c.args.marks.now g) (map_at Unknown g c.args.marks.now)
