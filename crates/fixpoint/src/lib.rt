@@ -116,6 +116,7 @@ impl<'a> Numbered<'a> {
 
     // The least set that has the start and is closed under the rules that are not shut and that s keeps: passes until one adds nothing.
     // How many passes there are shows only when one adds nothing, so this is no `for`.
+    #[inline(always)]
     fn least_closed(&self, start: LitSet, shut: LitSet, s: LitSet) -> LitSet
         ensures { set_of result.words
             ≡ Γ (program (without_heads (set_of shut.words) (rules_by self.now)) (set_of start.words)) (set_of s.words) }
@@ -131,6 +132,7 @@ impl<'a> Numbered<'a> {
     }
 
     // Γ(s), where `inside` is known to lie in it.
+    #[inline(always)]
     fn gamma_above(&self, facts: LitSet, s: LitSet, inside: LitSet) -> LitSet
         requires { set_of inside.words ⊆ Γ (program (rules_by self.now) (set_of facts.words)) (set_of s.words) }
         ensures { set_of result.words ≡ Γ (program (rules_by self.now) (set_of facts.words)) (set_of s.words) }
@@ -140,6 +142,7 @@ impl<'a> Numbered<'a> {
     }
 
     // Γs(s).
+    #[inline(always)]
     fn gamma_seminormal(&self, facts: LitSet, s: LitSet) -> LitSet
         ensures { set_of result.words ≡ Γs (program (rules_by self.now) (set_of facts.words)) (set_of s.words) }
     {
@@ -151,6 +154,7 @@ impl<'a> Numbered<'a> {
     // Rounds from `start`, which the first round keeps: Γs with the facts `possible`, and Γ of it with the facts `facts`, until the set stays the same. The
     // round that finds this out is not counted.
     // How many rounds there are shows only when the set stays the same, so this is no `for`.
+    #[inline(always)]
     fn settle(&self, start: LitSet, facts: LitSet, possible: LitSet) -> Model
         requires { set_of start.words
             ⊆ round_of (program (rules_by self.now) (set_of facts.words)) (program (rules_by self.now) (set_of possible.words)) (set_of start.words) }

@@ -40,7 +40,7 @@ pub row_changed : (table : List LitSet) (k : ℕ) (row : LitSet) (S : Set) → k
 row_changed table k row S h e = subst (λ (R : Set). Put table k R (set table k row)) e (row_put table k row h)
 
 -- both literals of name j are in one word
-pair_set : (ws : List ℕ) → length ws ≡ n_words → (j : ℕ) → j < n_names
+pub pair_set : (ws : List ℕ) → length ws ≡ n_words → (j : ℕ) → j < n_names
     → set_of (set ws (j / 32) (bit_or (bit_or (get_or ws (j / 32) 0) (2 ^ (2 * (j % 32)))) (2 ^ (2 * (j % 32) + 1)))) ≡ with_name j (set_of ws)
 pair_set ws len j h =
     ap set_of (sym (set-set ws q one _) ∙ ap (λ (w : ℕ). set (set ws q one) q (bit_or w (2 ^ (2 * (j % 32) + 1)))) (sym (get_or-set_same ws q one 0 (omega arith))))

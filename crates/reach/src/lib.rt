@@ -106,6 +106,16 @@ fn name_in(e: Entry) -> usize
     }
 }
 
+// The words of a set with name j. One word is read and stored, and not the set: it is done for every entry of every body.
+fn add_name(words: &mut [u64; litset::WORDS], j: usize)
+    requires { j < n_names }
+    ensures { set_of words.new ≡ with_name j (set_of words.old) }
+{
+    let i = j / 32;
+    let at = 2 * (j % 32);
+    words[i] = words[i] | (1u64 << at) | (1u64 << (at + 1));
+}
+
 // Row k with the names in the body of rule r added.
 fn add_names(book: &Book, r: usize, table: &mut [LitSet; NAMES], k: usize)
     requires { k < n_names }
@@ -116,8 +126,7 @@ fn add_names(book: &Book, r: usize, table: &mut [LitSet; NAMES], k: usize)
     let end = book::body_end(&book.starts, &book.entries, r);
     for j in start..end {
         let name = name_in(book::entry_at(&book.entries, j));
-        let row = with_name(row_at(table, k), name);
-        table[k] = row;
+        add_name(&mut table[k].words, name);
     }
 }
 
