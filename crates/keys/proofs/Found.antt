@@ -19,10 +19,10 @@ use Rattle.book.proofs.Lookup.{find_none, find_later, find_same}
 use Rattle.keys.specs.Keyed.{no_key, key_at, KeyFor, Keyed, LookedUp}
 
 -- the two answers of a look-up
-nothing_at : {i : ℕ} → None ≡ Some i → ⊥
+pub nothing_at : {i : ℕ} → None ≡ Some i → ⊥
 nothing_at e = let z : ◌≡◌ {A = ℕ} 0 1 = cc in omega arith
 
-at_same : {i j : ℕ} → Some i ≡ Some j → i ≡ j
+pub at_same : {i j : ℕ} → Some i ≡ Some j → i ≡ j
 at_same e = cc
 
 -- a name that none of the names is is not found
@@ -39,12 +39,12 @@ module _ {names : List (List ℕ)} {keys : List Key} {key : Key} {n : List ℕ} 
       let own = held.has_key k h in
       keys_tell EitherCase (get_or names k []) n (key_at keys k) key (own.key_is, own.bytes) (p.key_is, p.bytes) (λ e. held.short k h)
 
-  found_here : (k : ℕ) → k < length names → same_key (key_at keys k) key ≡ true → find EitherCase names n ≡ Some k
+  pub found_here : (k : ℕ) → k < length names → same_key (key_at keys k) key ≡ true → find EitherCase names n ≡ Some k
   found_here k h e =
       let same = (same_decides EitherCase (get_or names k []) n).0 (sym (key_tells k h) ∙ e) in
       sym (find_same EitherCase (get_or names k []) n 0 names same) ∙ held.own_place k h
 
-  found_none : ((k : ℕ) → k < length names → same_key (key_at keys k) key ≡ false) → find EitherCase names n ≡ None
+  pub found_none : ((k : ℕ) → k < length names → same_key (key_at keys k) key ≡ false) → find EitherCase names n ≡ None
   found_none none = not_among n 0 names (λ k h. sym (key_tells k h) ∙ none k h)
 
 -- ---- the answer of a look-up

@@ -1,2 +1,3 @@
 -- What the contracts of `keys` cite.
 pub mod Keyed
+pub mod Numbers

@@ -2,13 +2,16 @@
 // was declared.
 #![tactic(auto)]
 
-ghost use Rattle.std.specs.Prelude.{◌≡◌, ◌<◌};
+ghost use Rattle.std.specs.Prelude.{◌≡◌, ◌≤◌, ◌<◌};
 ghost use Rattle.keys.specs.Keyed.{max_hints, hint_place, put_key, put_hint, no_names, with_name, LookedUp};
 
+mod numbers;
+
+pub use numbers::{MAX_KEYS, find, put};
 use scan::Key;
 
 // The places of the hints: more than there are names, and a prime, so that few names share one. `max_hints` in specs/Keyed.antt is the same number.
-const MAX_HINTS: usize = 1021;
+pub const MAX_HINTS: usize = 1021;
 
 // Where the hint for a key stands. Which place it is matters to speed alone.
 fn hint_place(key: Key) -> usize
@@ -19,14 +22,21 @@ fn hint_place(key: Key) -> usize
     ((key.first ^ key.second) % MAX_HINTS as u64) as usize
 }
 
-// `find` and `put` take tables of any length, as their clauses say; `Names` has the two of a file.
+// The name to look at first for a key; past the end of the hints it is name 0.
+fn hint_at(hints: &[u8], key: Key) -> usize
+    ensures { result ≤ 255 }
+{
+    usize::from(hints.get(hint_place(key)).copied().unwrap_or(0))
+}
+
+// `find_key` and `put_key` take tables of any length, as their clauses say; `Names` has the two of a file.
 
 // The number of the name with the key among the first `count`. Whatever the hints say, the names that they lead to are compared by their keys.
-pub fn find(keys: &[Key], hints: &[u8], count: usize, key: Key) -> Option<usize>
+pub fn find_key(keys: &[Key], hints: &[u8], count: usize, key: Key) -> Option<usize>
     ensures { LookedUp keys.now count key result }
 {
     let few = count.min(keys.len());
-    let hint = usize::from(hints.get(hint_place(key)).copied().unwrap_or(0));
+    let hint = hint_at(hints, key);
     if hint < few && keys[hint] == key {
         return Some(hint);
     }
@@ -34,7 +44,7 @@ pub fn find(keys: &[Key], hints: &[u8], count: usize, key: Key) -> Option<usize>
 }
 
 // Name k is declared: it has the key, and is the name to look at first for it. What has no room is left out.
-pub fn put(keys: &mut [Key], hints: &mut [u8], k: usize, key: Key)
+pub fn put_key(keys: &mut [Key], hints: &mut [u8], k: usize, key: Key)
     ensures { (keys.new ≡ put_key keys.old k key) × (hints.new ≡ put_hint hints.old k key) }
 {
     if k < book::MAX_NAMES {
@@ -67,17 +77,17 @@ impl Names {
         }
     }
 
-    // The name with the key, as `find` says. The count is no field: it stands with the reader's other counts, which a line alters together.
+    // The name with the key, as `find_key` says. The count is no field: it stands with the reader's other counts, which a line alters together.
     pub fn find(&self, count: usize, key: Key) -> Option<usize>
         ensures { LookedUp self.now.keys count key result }
     {
-        find(&self.keys, &self.hints, count, key)
+        find_key(&self.keys, &self.hints, count, key)
     }
 
-    // Name k is declared, as `put` says.
+    // Name k is declared, as `put_key` says.
     pub fn put(&mut self, k: usize, key: Key)
         ensures { self.new ≡ with_name self.old k key }
     {
-        put(&mut self.keys, &mut self.hints, k, key);
+        put_key(&mut self.keys, &mut self.hints, k, key);
     }
 }

@@ -85,7 +85,7 @@ impl Draft {
             if !s.contains(l) {
                 continue;
             }
-            sheet::put_entry(
+            sheet::set_entry(
                 &mut self.sheet.entries,
                 self.count,
                 member_entry(kind, group, l),
@@ -111,7 +111,7 @@ impl Draft {
                 rule: r as u16,
                 group: 0,
             };
-            sheet::put_entry(&mut self.sheet.entries, self.count, e);
+            sheet::set_entry(&mut self.sheet.entries, self.count, e);
             self.truths = self.truths.insert(head);
             self.count += 1;
         }

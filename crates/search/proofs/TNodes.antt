@@ -25,7 +25,7 @@ use Rattle.search.proofs.Stock.{t_fact_less, t_mark_less, t_fails_left, t_holds_
 use Rattle.search.proofs.Visits.{T≢TU, walked_none, paid_none}
 
 -- its mark is known
-t_known : {P : Program} {s : State} {over : ℕ} → Ready P T s over → (a : ℕ) → (get_or s.t a 0 ≡ 0 → ⊥) → TVisit P s s a (eqb (get_or s.t a 0) 1)
+pub t_known : {P : Program} {s : State} {over : ℕ} → Ready P T s over → (a : ℕ) → (get_or s.t a 0 ≡ 0 → ⊥) → TVisit P s s a (eqb (get_or s.t a 0) 1)
 t_known {s = s} r a z =
     record {
       settled = record {

@@ -67,7 +67,7 @@ stays : {P : Program} {s : State} {a : ℕ} {f : Finding} → Visited P TU s s (
 stays v = record { visited = v; shuts_none = λ e A m. m }
 
 -- its mark is known
-u_known : {P : Program} {s : State} → Ready P TU s 0 → (a : ℕ) → (get_or s.u a 0 ≡ 0 → ⊥) → TuVisit P s s a (found (eqb (get_or s.u a 0) 2))
+pub u_known : {P : Program} {s : State} → Ready P TU s 0 → (a : ℕ) → (get_or s.u a 0 ≡ 0 → ⊥) → TuVisit P s s a (found (eqb (get_or s.u a 0) 2))
 unfolding Says
 u_known {P} {s} r a z = go (ℕ_discrete (get_or s.u a 0) 2)
   where

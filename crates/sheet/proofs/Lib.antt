@@ -1,5 +1,6 @@
 -- The laws of proof sheets.
 pub mod Stored
+pub mod Fields
 pub mod Open
 pub mod Sound
 pub mod Tables

@@ -11,8 +11,11 @@ ghost use Rattle.sheet.specs.Flat.{entry_in, entries_in, blank};
 ghost use Rattle.sheet.specs.Turns.{shows_for, open_in, numbered, passes, FirstFailing, GroupOf, left_at, TurnOf, FaultAt};
 ghost use Rattle.sheet.specs.Answers.{judgement_of, number_of};
 
+mod numbers;
+
 use book::{Book, Entry};
 use litset::LitSet;
+pub use numbers::{MAX_FIELDS, entry_at, put_entry};
 
 // The most entries of a sheet: two for each literal of a full book.
 pub const MAX_SHEET: usize = 4 * book::MAX_NAMES;
@@ -54,14 +57,14 @@ pub fn blank() -> Sheet
 }
 
 // Entry i of a table; past its end the numbers are 0.
-pub fn entry_at(table: &[SheetEntry], i: usize) -> SheetEntry
+pub fn entry_of(table: &[SheetEntry], i: usize) -> SheetEntry
     ensures { result ≡ entry_in table.now i }
 {
     table.get(i).copied().unwrap_or(NO_ENTRY)
 }
 
 // An entry becomes entry i of a table; what lies past its end is left out.
-pub fn put_entry(table: &mut [SheetEntry], i: usize, e: SheetEntry)
+pub fn set_entry(table: &mut [SheetEntry], i: usize, e: SheetEntry)
     ensures { table.new ≡ set table.old i e }
 {
     store::put(table, i, e);
@@ -235,7 +238,7 @@ impl<'a> Check<'a> {
         ensures { result ≡ numbered (entry_in self.now.entries.now) i g }
     {
         for j in 0..i {
-            if is_false_of(entry_at(self.entries, j), g) {
+            if is_false_of(entry_of(self.entries, j), g) {
                 return true;
             }
         }
@@ -247,11 +250,11 @@ impl<'a> Check<'a> {
         requires { i < length self.now.entries.now }
         ensures { GroupOf (entry_in self.now.entries.now) i (length self.now.entries.now) result }
     {
-        let first = entry_at(self.entries, i);
+        let first = entry_of(self.entries, i);
         let number = first.group;
         let mut members = LitSet::empty().insert(usize::from(first.literal));
         for j in i + 1..self.entries.len() {
-            let e = entry_at(self.entries, j);
+            let e = entry_of(self.entries, j);
             if !is_false_of(e, number) {
                 return Group {
                     number,
@@ -281,7 +284,7 @@ impl<'a> Check<'a> {
         ensures { FirstFailing (passes self.now.known (set_of opened.words)) (entry_in self.now.entries.now) i j result }
     {
         for k in i..j {
-            let e = entry_at(self.entries, k);
+            let e = entry_of(self.entries, k);
             if !self.passes(opened, usize::from(e.literal)) {
                 return Err(k);
             }
@@ -315,7 +318,7 @@ impl<'a> Check<'a> {
         ensures { TurnOf (left_at (rules_of self.now.book.now) (set_of self.now.facts.words) self.now.known (entry_in self.now.entries.now) (length self.now.entries.now))
             (length self.now.entries.now) p result }
     {
-        let e = entry_at(self.entries, p.next);
+        let e = entry_of(self.entries, p.next);
         if e.kind == 0 {
             return self.group_turn(p);
         }
@@ -352,7 +355,7 @@ impl<'a> Check<'a> {
         ensures { result ≡ among kind literal (rows (entry_in self.now.entries.now) 0 (length self.now.entries.now)) }
     {
         for j in 0..self.entries.len() {
-            if is_claim(entry_at(self.entries, j), kind, literal) {
+            if is_claim(entry_of(self.entries, j), kind, literal) {
                 return true;
             }
         }

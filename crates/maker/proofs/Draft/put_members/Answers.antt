@@ -19,7 +19,7 @@ pub loop-l-preserved : goal.loop-l-preserved
 loop-l-preserved c =
     let inv = c.loop-l.invariant in
     let member = sym c.contains.ensures ∙ c.if-not-contains.false in
-    (putting_more inv.0 c.loop-l-test.true member (putting_room inv.0 c.loop-l-test.true member c.requires.1) c.member_entry.ensures c.put_entry.ensures, inv.1, inv.2)
+    (putting_more inv.0 c.loop-l-test.true member (putting_room inv.0 c.loop-l-test.true member c.requires.1) c.member_entry.ensures c.set_entry.ensures, inv.1, inv.2)
 
 pub returns : goal.returns
 returns c =

@@ -14,7 +14,7 @@ pub loop-r-preserved : goal.loop-r-preserved
 loop-r-preserved c =
     let inv = c.loop-r.invariant in
     let adding = sym c.rule_adds.ensures ∙ c.if-not-rule_adds.false in
-    (passing_more inv.0 (omega (arith, c.rule_count-r-end.ensures)) adding (passing_room inv.0 (omega (arith, c.rule_count-r-end.ensures)) adding (rw (← inv.1) at c.requires)) c.head_at-head.ensures c.put_entry.ensures c.insert-self.ensures, inv.1)
+    (passing_more inv.0 (omega (arith, c.rule_count-r-end.ensures)) adding (passing_room inv.0 (omega (arith, c.rule_count-r-end.ensures)) adding (rw (← inv.1) at c.requires)) c.head_at-head.ensures c.set_entry.ensures c.insert-self.ensures, inv.1)
 
 pub returns : goal.returns
 returns c =

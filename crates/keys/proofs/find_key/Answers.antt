@@ -1,4 +1,4 @@
--- `find`: a name that the hint leads to is the one where its key matches; else the first name with the key is the one, or none has it.
+-- `find_key`: a name that the hint leads to is the one where its key matches; else the first name with the key is the one, or none has it.
 use borrow.Author.Rules.{rules}
 use borrow.Author.Tests.{tests}
 use Prim.Native.Nat.{zero-le}
@@ -9,11 +9,11 @@ use Rattle.scan.specs.Keys.{same_key}
 use Rattle.scan.specs.declared.Key.{Key}
 use Rattle.keys.proofs.Found.{looked_at, looked_first, looked_none}
 use Rattle.keys.specs.Keyed.{no_key, LookedUp}
-use Rattle.keys.proofs.find.Goals as goal
+use Rattle.keys.proofs.find_key.Goals as goal
 
 pub returns-then-eq : goal.returns-then-eq
 returns-then-eq c =
-    looked_at c.args.keys.now c.args.count c.args.key c.from-hint.result (omega (arith, c.min-few.ensures, c.if-hint-few.true)) (sym c.eq.ensures ∙ c.if-eq.true)
+    looked_at c.args.keys.now c.args.count c.args.key c.hint_at-hint.result (omega (arith, c.min-few.ensures, c.if-hint-few.true)) (sym c.eq.ensures ∙ c.if-eq.true)
 
 pub returns : goal.returns
 returns c = go c.position.result refl
