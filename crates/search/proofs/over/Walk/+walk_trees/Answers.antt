@@ -152,11 +152,11 @@ t_node-returns t c =
 
 -- a node of a TU-tree
 
-pub tu_node-returns-in-Held : goal.tu_node-returns-in-Held
-tu_node-returns-in-Held t c = u_known_holds c.requires.1 _ (u_is c.args.s.now.u c.args.a Held c.in-Held.is)
-
 pub tu_node-returns-in_default : goal.tu_node-returns-in_default
 tu_node-returns-in_default t c = u_known_fails c.requires.1 _ (u_other c.args.s.now.u c.args.a Unknown c.in_default.not-Unknown) (u_other c.args.s.now.u c.args.a Held c.in_default.not-Held)
+
+pub tu_node-returns-in-Held : goal.tu_node-returns-in-Held
+tu_node-returns-in-Held t c = u_known_holds c.requires.1 _ (u_is c.args.s.now.u c.args.a Held c.in-Held.is)
 
 pub tu_node-returns-then-not-is_head : goal.tu_node-returns-then-not-is_head
 tu_node-returns-then-not-is_head t c =
