@@ -1,9 +1,8 @@
 -- The table as plain numbers: where it has the keys of the names, so has the list of the keys that it holds. The laws of the look-up by keys hold for it too.
 use mathlib.Core.Path.{◌≡◌, sym, ◌∙◌}
 use mathlib.Core.Bool.{true, false}
-use mathlib.Core.List.{List, []}
+use mathlib.Core.List.{List}
 use Prim.Native.Nat.{ℕ, ◌+◌, ◌≤◌, ◌<◌}
-use native.Mathlib.Nat.{zero-add}
 use native.Mathlib.Omega.{arith}
 use lib.ListN.{length}
 use Rattle.scan.specs.Keys.{same_key}
@@ -11,7 +10,7 @@ use Rattle.scan.specs.declared.Key.{Key}
 use Rattle.book.specs.Limits.{max_names}
 use Rattle.book.proofs.Rows.{rows_length, row_at}
 use Rattle.std.specs.Prelude.{Option, None, Some}
-use Rattle.keys.specs.Keyed.{no_key, key_at, KeyFor, Keyed, LookedUp}
+use Rattle.keys.specs.Keyed.{no_key, key_at, Keyed, LookedUp}
 use Rattle.keys.specs.Numbers.{key_in_numbers, keys_of, KeyedNumbers, LookedUpNumbers}
 use Rattle.keys.proofs.Found.{nothing_at, at_same, found_here, found_none}
 
