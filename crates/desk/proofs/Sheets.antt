@@ -17,6 +17,7 @@ use Rattle.lesson.specs.State.{State, program_in, none_loaded, in_book, Said, gi
 use Rattle.lesson.specs.Calls.{Checks, make_told, Makes}
 use Rattle.lesson.specs.Conditions.{make_rows}
 use Rattle.lesson.specs.declared.Refusal.{Refusal}
+use Rattle.lesson.specs.declared.Unmade.{Unmade}
 use Rattle.lesson.proofs.Order.{some_book, literal_below}
 use Rattle.lesson.proofs.Sound.{book_in_room}
 use Rattle.lesson.proofs.Sheets.{check_sound, make_by, make_wrote}
@@ -40,7 +41,7 @@ module _ (cs : List Call) (start k : Desk) (f : Fresh start) (run : Run start cs
       }
 
   -- every call of the maker in a run, for a literal of the book
-  pub make_due : A ∈ in_book (left cs).book → (lent : List SheetEntry) (r : Result Made Refusal) (after : List SheetEntry) → Makes k.shelf k.lesson A truth lent r after
+  pub make_due : A ∈ in_book (left cs).book → (lent : List SheetEntry) (r : Result Made Unmade) (after : List SheetEntry) → Makes k.shelf k.lesson A truth lent r after
       → MakeDue (left cs) A truth lent (make_told r) after
   make_due i lent r after h =
       record {

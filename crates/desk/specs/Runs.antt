@@ -30,6 +30,7 @@ use Rattle.lesson.specs.declared.Change.{Change}
 use Rattle.lesson.specs.declared.Refusal.{Refusal}
 use Rattle.lesson.specs.declared.WholeModel.{WholeModel}
 use Rattle.lesson.specs.declared.ModelByGroups.{ModelByGroups}
+use Rattle.lesson.specs.declared.Unmade.{Unmade}
 use Rattle.calls.specs.Lists.{CallSpec, after_all, RunOf}
 use Rattle.desk.specs.Calls.{LoadRefused, Loads}
 use Rattle.desk.specs.declared.Desk.{Desk}
@@ -118,7 +119,7 @@ spec_of model_by_groups = reading_call (Result ModelByGroups Refusal) GivesGroup
 spec_of (listing buffer) = lent_call buffer (Result ℕ Refusal) (λ s l r after. Lists s l buffer r after) told (λ d. listing_rows d buffer)
 spec_of (preview c buffer) = lent_call buffer (Result ℕ Refusal) (λ s l r after. Previews s l c buffer r after) told (λ d. preview_rows d c buffer)
 spec_of (check_sheet A truth es) = reading_call (Result (Unit {0}) Refusal) (λ s l r. Checks s l A truth es r) (λ r. judgement_says (judged r)) (λ d. check_rows d A truth es)
-spec_of (make_sheet A truth run) = lent_call run (Result Made Refusal) (λ s l r after. Makes s l A truth run r after) make_told (λ d. make_rows d A truth run)
+spec_of (make_sheet A truth run) = lent_call run (Result Made Unmade) (λ s l r after. Makes s l A truth run r after) make_told (λ d. make_rows d A truth run)
 
 -- ---- lists
 

@@ -22,7 +22,7 @@ use Rattle.book.proofs.Names.{names_counted}
 use Rattle.book.proofs.Rows.{rows_length}
 use Rattle.sheet.specs.Sheet.{max_sheet, Fault, none, at, fault, kind_of, among, Judgement, accepted, judged_by, judgement, IsSo}
 use Rattle.sheet.specs.Sheet as sheet
-use Rattle.sheet.specs.Flat.{entry_in, entries_in}
+use Rattle.sheet.specs.Flat.{entry_in, entries_in, blank}
 use Rattle.sheet.specs.Answers.{judgement_of}
 use Rattle.sheet.specs.declared.Rejection.{Rejection}
 use Rattle.std.specs.Option.{is_some, IfSome}
@@ -33,7 +33,7 @@ use Rattle.maker.specs.Result.{MadeFor}
 use Rattle.maker.specs.declared.Made.{Made}
 use Rattle.maker.proofs.Rounds.{rules_small}
 use Rattle.maker.proofs.Exists.{made_exists}
-use Rattle.std.specs.Prelude.{Result, Ok, Err, IfOk}
+use Rattle.std.specs.Prelude.{Result, Ok, Err, IfOk, IfErr}
 use Rattle.std.proofs.lemmas.Result.{IfOk-at_ok}
 use Rattle.lesson.specs.State.{BookState, unloaded, loaded_with, State, its_names, its_rules, in_force, program_in, none_loaded, in_book, Said, gives, refused, number_of, Ack, acknowledged, if_loaded, in_order, known_in, judged_in, judgement_says, unless_turned, check_says, make_says}
 use Rattle.lesson.specs.Calls.{shelf_of, own_of, meaning_of, index_of, judged, Checks, make_told, count_in, MakesUnless, MakesTable, entries_after, Makes}
@@ -42,8 +42,8 @@ use Rattle.lesson.specs.declared.Shelf.{Shelf}
 use Rattle.lesson.specs.declared.Lesson.{Lesson}
 use Rattle.lesson.specs.declared.Refusal.{Refusal}
 use Rattle.lesson.specs.declared.Refusal.TheVariants as refusal
+use Rattle.lesson.specs.declared.Unmade.{Unmade}
 use Rattle.lesson.proofs.Order.{given_refused, refused_same, given_same, inside, given_inside, some_book, turned_so, state_passed}
-use Rattle.lesson.proofs.Refusals.{Told, order_told_lem, told_ok}
 use Rattle.lesson.proofs.Meaning.{shelf_is}
 use Rattle.lesson.proofs.Sound.{Sound, book_in_room, literals_within}
 use Rattle.lesson.proofs.Rows.{By, met, unmet, given_by, order_by_lem}
@@ -78,8 +78,8 @@ module _ (s : Shelf) (l : Lesson) (A : ℕ) (truth : Bool) where
     unfolding check_says
     check_state es = record { says = rw (← h, index_0 e (shelf_of s) A h) refl }
 
-    pub make_state : (room : ℕ) → MakesTable s l A truth room (Err e)
-    make_state room = record { unless = rw (← h) refl }
+    pub make_state : (room : ℕ) (u : Unmade) → u.refusal ≡ e → MakesTable s l A truth room (Err u)
+    make_state room u is = record { unless = rw (← h, is) refl }
 
   module _ (e : gives acknowledged ≡ in_order (shelf_of s) A (gives acknowledged)) where
     pub check_given : (es : List SheetEntry) (F : Set) → F ≡ in_force (own_of l) → (r : Result (Unit {0}) Refusal)
@@ -89,23 +89,23 @@ module _ (s : Shelf) (l : Lesson) (A : ℕ) (truth : Bool) where
 
     module _ (room : ℕ) (F : Set) (force : F ≡ in_force (own_of l)) (m : Option Made) (h : MadeFor (rules_of s.book) F (2 * length (names_of s.book)) truth A m)
         (names : ℕ) (count : names ≡ length (names_of s.book)) where
-      made : (r : Result Made Refusal) → make_told r ≡ make_says (2 * names) room (is_some m) (count_in m) → IfOk r (λ n. m ≡ Some n) → MakesTable s l A truth room r
-      made r q i =
+      made : (r : Result Made Unmade) → make_told r ≡ make_says (2 * names) room (is_some m) (count_in m) → IfOk r (λ n. m ≡ Some n) → IfErr r (λ u. IfSome m (λ n. u.made ≡ n)) → MakesTable s l A truth room r
+      made r q i b =
           let book = shelf_is s (state_passed (shelf_of s) A e).0 in
-          record { unless = rw (← e) (record { made = m; made_for = rw (book, ← force) h; says = q ∙ rw (book, count) refl; gives_it = i }) }
+          record { unless = rw (← e) (record { made = m; made_for = rw (book, ← force) h; says = q ∙ rw (book, count) refl; gives_it = i; beside = b }) }
 
-      pub make_28 : m ≡ None → MakesTable s l A truth room (Err refusal.ClaimNotShown)
+      pub make_28 : m ≡ None → (u : Unmade) → u.refusal ≡ refusal.ClaimNotShown → MakesTable s l A truth room (Err u)
       unfolding make_says
-      make_28 f = made (Err refusal.ClaimNotShown) (rw f refl) (record {})
+      make_28 f u is = made (Err u) (rw (f, is) refl) (record {}) (rw f (record {}))
 
       module _ (x : Made) (is : m ≡ Some x) where
-        pub make_25 : room < 4 * names → MakesTable s l A truth room (Err refusal.TooShort)
+        pub make_25 : room < 4 * names → MakesTable s l A truth room (Err (record { made = x; refusal = refusal.TooShort }))
         unfolding make_says
-        make_25 h = made (Err refusal.TooShort) (rw (is, lt-leb (2 * (2 * names)) room (omega arith)) refl) (record {})
+        make_25 h = made (Err _) (rw (is, lt-leb (2 * (2 * names)) room (omega arith)) refl) (record {}) (rw is refl)
 
         pub make_count : 4 * names ≤ room → MakesTable s l A truth room (Ok x)
         unfolding make_says
-        make_count h = made (Ok x) (rw (is, le-leb (2 * (2 * names)) room (omega arith)) refl) is
+        make_count h = made (Ok x) (rw (is, le-leb (2 * (2 * names)) room (omega arith)) refl) is (record {})
 
 -- ---- when the check is turned down, and what an accepted sheet tells
 
@@ -198,6 +198,11 @@ said_count known room found count n e = go found (leb (2 * known) room) refl e
     go true false y q = absurd (given_refused n 25 (sym q))
     go false t y q = absurd (given_refused n 28 (sym q))
 
+-- where a count is told, a sheet was given
+told_made : (r : Result Made Unmade) (n : ℕ) → make_told r ≡ gives n → (m : Made) × (r ≡ Ok m) × (m.count ≡ n)
+told_made (Ok m) n e = (m, refl, given_same _ _ e)
+told_made (Err u) n e = absurd (given_refused n (number_of u.refusal) (sym e))
+
 few_counted : (m : Option Made) (most : ℕ) → IfSome m (λ x. x.count ≤ most) → count_in m ≤ most
 few_counted None most h = zero-le
 few_counted (Some x) most h = h
@@ -225,14 +230,14 @@ make_within s l A truth room m h = go (in_order (shelf_of s) A (gives acknowledg
 
 -- ---- when the maker is turned down
 
-module _ (s : Shelf) (l : Lesson) (A : ℕ) (truth : Bool) (before : List SheetEntry) (r : Result Made Refusal) (after : List SheetEntry) (h : Makes s l A truth before r after) where
+module _ (s : Shelf) (l : Lesson) (A : ℕ) (truth : Bool) (before : List SheetEntry) (r : Result Made Unmade) (after : List SheetEntry) (h : Makes s l A truth before r after) where
   abbrev d : State
   d = meaning_of s l
 
   pub make_unwritten : (n : ℕ) → make_told r ≡ refused n → after ≡ before
   make_unwritten n e = go r e h.entries
     where
-      go : (r : Result Made Refusal) → make_told r ≡ refused n → after ≡ entries_after before r → after ≡ before
+      go : (r : Result Made Unmade) → make_told r ≡ refused n → after ≡ entries_after before r → after ≡ before
       go (Ok m) e w = absurd (given_refused m.count n e)
       go (Err f) e w = w
 
@@ -296,7 +301,7 @@ module _ (s : Shelf) (l : Lesson) (A : ℕ) (truth : Bool) (before : List SheetE
           counted = said_count (known_in (shelf_of s)) (length before) (is_some w.made) (count_in w.made) n (sym w.says ∙ e)
 
           given : (m : Made) × (r ≡ Ok m) × (m.count ≡ n)
-          given = told_ok (λ (m : Made). m.count) r n e
+          given = told_made r n e
 
           made_is : w.made ≡ Some given.0
           made_is = IfOk-at_ok (λ m. w.made ≡ Some m) given.1 w.gives_it
@@ -344,29 +349,35 @@ module _ (s : Shelf) (l : Lesson) (A : ℕ) (truth : Bool) where
       go false true true none true = (Ok tt, refl)
       go false true true none false = (Err refusal.ClaimNotShown, refl)
 
-  pub make_exists : Sound (meaning_of s l) → (before : List SheetEntry) → (r : Result Made Refusal) × (after : List SheetEntry) × Makes s l A truth before r after
-  unfolding make_says
+  pub make_exists : Sound (meaning_of s l) → (before : List SheetEntry) → (r : Result Made Unmade) × (after : List SheetEntry) × Makes s l A truth before r after
+  unfolding make_says in_order if_loaded
   make_exists sound before = let w = go (in_order (shelf_of s) A (gives acknowledged)) refl in (w.0, entries_after before w.0, record { makes = w.1; entries = refl })
     where
-      -- 20 or 21 as a refusal
-      turned : (n : ℕ) → in_order (shelf_of s) A (gives acknowledged) ≡ refused n → (r : Result Made Refusal) × (make_told r ≡ refused n)
-      turned n e =
-          let w = order_told_lem (λ (m : Made). m.count) (shelf_of s) _ (refused_told) A in (w.0, w.1 ∙ sym (turned_so (shelf_of s) A n e _))
-        where
-          refused_told : Told (λ (m : Made). m.count) (refused 28)
-          refused_told = (Err refusal.ClaimNotShown, refl)
+      -- a refusal with no sheet made
+      unmade : Refusal → Unmade
+      unmade e = record { made = record { count = 0; sheet = blank }; refusal = e }
 
-      answer_for : (m : Option Made) → (r : Result Made Refusal) × (make_told r ≡ make_says (known_in (shelf_of s)) (length before) (is_some m) (count_in m)) × IfOk r (λ n. m ≡ Some n)
-      answer_for None = (Err refusal.ClaimNotShown, refl, record {})
+      -- 20 or 21 as a refusal
+      turned : (n : ℕ) → in_order (shelf_of s) A (gives acknowledged) ≡ refused n → (r : Result Made Unmade) × (make_told r ≡ refused n)
+      turned n e = go (none_loaded (shelf_of s)) (in_book (shelf_of s) A) e
+        where
+          go : (a i : Bool) → cond a (refused 20) (cond i (gives acknowledged) (refused 21)) ≡ refused n → (r : Result Made Unmade) × (make_told r ≡ refused n)
+          go true i h = (Err (unmade refusal.NoBook), ap refused (refused_same 20 n h))
+          go false true h = absurd (given_refused acknowledged n h)
+          go false false h = (Err (unmade refusal.NotInBook), ap refused (refused_same 21 n h))
+
+      answer_for : (m : Option Made)
+          → (r : Result Made Unmade) × (make_told r ≡ make_says (known_in (shelf_of s)) (length before) (is_some m) (count_in m)) × IfOk r (λ n. m ≡ Some n) × IfErr r (λ u. IfSome m (λ n. u.made ≡ n))
+      answer_for None = (Err (unmade refusal.ClaimNotShown), refl, record {}, record {})
       answer_for (Some x) = by (leb (2 * known_in (shelf_of s)) (length before))
         where
-          by : (t : Bool) → (r : Result Made Refusal) × (make_told r ≡ cond t (gives x.count) (refused 25)) × IfOk r (λ n. Some x ≡ Some n)
-          by false = (Err refusal.TooShort, refl, record {})
-          by true = (Ok x, refl, refl)
+          by : (t : Bool) → (r : Result Made Unmade) × (make_told r ≡ cond t (gives x.count) (refused 25)) × IfOk r (λ n. Some x ≡ Some n) × IfErr r (λ u. u.made ≡ x)
+          by false = (Err (record { made = x; refusal = refusal.TooShort }), refl, record {}, refl)
+          by true = (Ok x, refl, refl, record {})
 
-      go : (said : Said Ack) → in_order (shelf_of s) A (gives acknowledged) ≡ said → (r : Result Made Refusal) × MakesTable s l A truth (length before) r
+      go : (said : Said Ack) → in_order (shelf_of s) A (gives acknowledged) ≡ said → (r : Result Made Unmade) × MakesTable s l A truth (length before) r
       go (refused n) e = let w = turned n e in (w.0, record { unless = rw e w.1 })
       go (gives x) e =
           let m = made_exists (its_rules (shelf_of s)) (in_force (own_of l)) (known_in (shelf_of s)) _ refl sound.few_names (λ B i. book_in_room (meaning_of s l) sound B (sound.facts_known B i)) (rules_room s) truth A in
           let a = answer_for m.0 in
-          (a.0, record { unless = rw e (record { made = m.0; made_for = m.1; says = a.1; gives_it = a.2 }) })
+          (a.0, record { unless = rw e (record { made = m.0; made_for = m.1; says = a.1; gives_it = a.2; beside = a.3 }) })

@@ -1,5 +1,5 @@
 -- What each call answers and leaves, for every shelf, lesson and argument.
-use Rattle.std.specs.Prelude.{◌≡◌, ◌⊎◌, Option, None, Some, Bool, cond, ℕ, ◌++◌, List, drop, eqb, length, Result, Ok, Err, IfOk}
+use Rattle.std.specs.Prelude.{◌≡◌, ◌⊎◌, Option, None, Some, Bool, cond, ℕ, ◌++◌, List, drop, eqb, length, Result, Ok, Err, IfOk, IfErr, IfSome}
 use Rattle.std.specs.Option.{is_some}
 use Rattle.wfsx.specs.Sets.{Set, ∅}
 use Rattle.wfsx.specs.Program.{Entry, Program}
@@ -29,6 +29,7 @@ use Rattle.lesson.specs.declared.Refusal.{Refusal}
 use Rattle.lesson.specs.declared.Refusal.TheVariants as refusal
 use Rattle.lesson.specs.declared.WholeModel.{WholeModel}
 use Rattle.lesson.specs.declared.ModelByGroups.{ModelByGroups}
+use Rattle.lesson.specs.declared.Unmade.{Unmade}
 
 unfoldable pub shelf_of : Shelf → BookState
 shelf_of s = cond (eqb s.loaded 0) unloaded (loaded_with (names_of s.book) (rules_of s.book))
@@ -187,8 +188,9 @@ pub record Checks (s : Shelf) (l : Lesson) (A : ℕ) (truth : Bool) (es : List S
   pub says : judged r ≡ check_says (meaning_of s l) A truth es
 
 -- how many entries there are
-abbrev pub make_told : Result Made Refusal → Said ℕ
-make_told r = told_by (λ (m : Made). m.count) r
+abbrev pub make_told : Result Made Unmade → Said ℕ
+make_told (Ok m) = gives m.count
+make_told (Err e) = refused (number_of e.refusal)
 
 -- how many entries were made, if a sheet was
 abbrev pub count_in : Option Made → ℕ
@@ -196,26 +198,28 @@ count_in None = 0
 count_in (Some m) = m.count
 
 -- What the maker makes for a lent run with room for so many entries. Which sheet it is, is the program's choice; `MadeFor` says what all choices share.
-pub record MakesSheet (s : Shelf) (l : Lesson) (A : ℕ) (truth : Bool) (room : ℕ) (r : Result Made Refusal) : Type 0 where
+pub record MakesSheet (s : Shelf) (l : Lesson) (A : ℕ) (truth : Bool) (room : ℕ) (r : Result Made Unmade) : Type 0 where
   pub made : Option Made
   pub made_for : MadeFor (its_rules (shelf_of s)) (in_force (own_of l)) (known_in (shelf_of s)) truth A made
   pub says : make_told r ≡ make_says (known_in (shelf_of s)) room (is_some made) (count_in made)
   pub gives_it : IfOk r (λ m. made ≡ Some m)
+  -- a sheet that was made and has no room stands beside the refusal
+  pub beside : IfErr r (λ e. IfSome made (λ m. e.made ≡ m))
 
 -- 20 and 21 come first
-abbrev pub MakesUnless : Said Ack → Shelf → Lesson → ℕ → Bool → ℕ → Result Made Refusal → Type 0
+abbrev pub MakesUnless : Said Ack → Shelf → Lesson → ℕ → Bool → ℕ → Result Made Unmade → Type 0
 MakesUnless (gives x) s l A truth room r = MakesSheet s l A truth room r
 MakesUnless (refused number) s l A truth room r = make_told r ≡ refused number
 
-pub record MakesTable (s : Shelf) (l : Lesson) (A : ℕ) (truth : Bool) (room : ℕ) (r : Result Made Refusal) : Type 0 where
+pub record MakesTable (s : Shelf) (l : Lesson) (A : ℕ) (truth : Bool) (room : ℕ) (r : Result Made Unmade) : Type 0 where
   pub unless : MakesUnless (in_order (shelf_of s) A (gives acknowledged)) s l A truth room r
 
 -- the lent entries afterwards: those after the entries that were written stay, and a refused call changes none
-abbrev pub entries_after : List SheetEntry → Result Made Refusal → List SheetEntry
+abbrev pub entries_after : List SheetEntry → Result Made Unmade → List SheetEntry
 entries_after before (Ok m) = entries_in m.sheet.entries m.count ++ drop m.count before
 entries_after before (Err e) = before
 
 -- the maker on a lent run: `before` and `after` are its entries
-pub record Makes (s : Shelf) (l : Lesson) (A : ℕ) (truth : Bool) (before : List SheetEntry) (r : Result Made Refusal) (after : List SheetEntry) : Type 0 where
+pub record Makes (s : Shelf) (l : Lesson) (A : ℕ) (truth : Bool) (before : List SheetEntry) (r : Result Made Unmade) (after : List SheetEntry) : Type 0 where
   pub makes : MakesTable s l A truth (length before) r
   pub entries : after ≡ entries_after before r

@@ -100,6 +100,28 @@ impl Refusal {
     }
 }
 
+// Why no sheet is given for a lent run. Where the run is too short, `made` is the sheet that has no room in it; beside another refusal nothing is said of it.
+// It comes first, so that it lies where that of an Ok does: then it is copied in one piece, and not word by word.
+#[derive(Clone, Copy)]
+pub struct Unmade {
+    pub made: Made,
+    pub refusal: Refusal,
+}
+
+impl From<Refusal> for Unmade {
+    ghost from_gives = { λ refusal u. u.refusal ≡ refusal };
+
+    fn from(refusal: Refusal) -> Unmade {
+        Unmade {
+            made: Made {
+                count: 0,
+                sheet: sheet::blank(),
+            },
+            refusal,
+        }
+    }
+}
+
 // ---- the lesson
 
 // Shelf and lesson stay two parameters of the calls: a change writes the lesson alone, and the working order has none. The struct of both is the desk, one
@@ -370,16 +392,19 @@ pub fn make_sheet(
     literal: usize,
     truth: bool,
     room: usize,
-) -> Result<Made, Refusal>
+) -> Result<Made, Unmade>
     ensures { MakesTable s.now l.now literal truth room result }
 {
     check_literal(s, literal)?;
     let Some(made) = maker::make(&s.book, in_force(l), literal, truth) else {
-        return Err(Refusal::ClaimNotShown);
+        return Err(Unmade::from(Refusal::ClaimNotShown));
     };
     let names = s.book.name_count();
     if room < 4 * names {
-        return Err(Refusal::TooShort);
+        return Err(Unmade {
+            made,
+            refusal: Refusal::TooShort,
+        });
     }
     Ok(made)
 }

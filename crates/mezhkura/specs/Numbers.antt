@@ -20,6 +20,7 @@ use Rattle.lesson.specs.declared.Lesson.{Lesson}
 use Rattle.lesson.specs.declared.Refusal.{Refusal}
 use Rattle.lesson.specs.declared.WholeModel.{WholeModel}
 use Rattle.lesson.specs.declared.ModelByGroups.{ModelByGroups}
+use Rattle.lesson.specs.declared.Unmade.{Unmade}
 use Rattle.desk.specs.declared.Desk.{Desk}
 use Rattle.mezhkura.specs.declared.SizeReply.{SizeReply}
 use Rattle.mezhkura.specs.declared.LoadReply.{LoadReply}
@@ -142,8 +143,9 @@ abbrev pub CheckIn : (Result (Unit {0}) Refusal → Type 0) → CheckReply → T
 CheckIn May r = (a : Result (Unit {0}) Refusal) × May a × (r ≡ check_numbers a)
 
 -- a call that is turned down wrote no entry
-abbrev pub make_numbers : Result Made Refusal → MakeReply
-make_numbers a = record { number = number_in a; count = value_in (λ (m : Made). m.count) 0 a }
+abbrev pub make_numbers : Result Made Unmade → MakeReply
+make_numbers (Ok m) = record { number = 0; count = m.count }
+make_numbers (Err e) = record { number = number_of e.refusal; count = 0 }
 
-abbrev pub MakeIn : (Result Made Refusal → Type 0) → MakeReply → Type 0
-MakeIn May r = (a : Result Made Refusal) × May a × (r ≡ make_numbers a)
+abbrev pub MakeIn : (Result Made Unmade → Type 0) → MakeReply → Type 0
+MakeIn May r = (a : Result Made Unmade) × May a × (r ≡ make_numbers a)

@@ -453,8 +453,8 @@ pub extern "C" fn mezhkura_make_sheet(
                 count: made.count,
             }
         }
-        Err(refusal) => MakeReply {
-            number: refusal.number(),
+        Err(unmade) => MakeReply {
+            number: unmade.refusal.number(),
             count: 0,
         },
     }
