@@ -1,15 +1,13 @@
 -- What the calls over a lent run of entries cite: what is said of the run is what is said of its entries in a sheet's table.
-use mathlib.Core.Path.{◌≡◌, ap, ◌∙◌}
-use mathlib.Core.List.{List, ◌++◌}
+use mathlib.Core.Path.{◌≡◌, ◌∙◌}
+use mathlib.Core.List.{List}
 use Prim.Native.Nat.{ℕ, ◌≤◌}
 use native.Mathlib.Omega.{arith}
-use lib.ListN.{length, take, drop, length-append, length-take}
-use lib.Seq.{take_all, take_at}
+use lib.ListN.{length}
 use Rattle.book.proofs.Rows.{rows_length}
 use Rattle.sheet.specs.Sheet.{max_sheet}
 use Rattle.sheet.specs.Flat.{entry_in, entries_in}
 use Rattle.sheet.specs.declared.SheetEntry.{SheetEntry}
-use Rattle.sheet.proofs.Stored.{entries_first}
 use Rattle.std.specs.Prelude.{Bool, Result}
 use Rattle.lesson.specs.Calls.{meaning_of, Checks}
 use Rattle.lesson.specs.declared.Shelf.{Shelf}

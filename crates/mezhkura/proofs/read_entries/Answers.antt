@@ -1,5 +1,5 @@
 -- `read_entries`: the first entries of the table are those of the run.
-use Rattle.std.proofs.Common.{◌≡◌, ◌++◌, length, take, drop, ap, ◌∙◌, arith}
+use Rattle.std.proofs.Common.{◌≡◌, ◌++◌, length, drop, ◌∙◌, arith}
 use Rattle.std.proofs.lemmas.List.{length-take-le}
 use lib.ListN.{length-append}
 use lib.Seq.{take_all, take_at}
