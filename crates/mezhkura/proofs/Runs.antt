@@ -15,9 +15,9 @@ use Rattle.lesson.specs.declared.Lesson.{Lesson}
 use Rattle.lesson.specs.declared.Refusal.{Refusal}
 use Rattle.lesson.proofs.Sheets.{check_length}
 
--- beyond the most entries the answer depends on their count alone
-pub run_flat : (s : Shelf) (l : Lesson) (literal : ℕ) (truth : Bool) (es table : List SheetEntry) (r : Result (Unit {0}) Refusal)
-    → (length es ≤ max_sheet → entries_in table (length es) ≡ es) → Checks s l literal truth (entries_in table (length es)) r → Checks s l literal truth es r
-run_flat s l literal truth es table r same h =
-    let size = rows_length (entry_in table) 0 (length es) in
-    record { says = h.says ∙ check_length (meaning_of s l) literal truth (entries_in table (length es)) es size (λ few. same (omega arith)) }
+-- beyond the most entries the answer depends on their count alone, n
+pub run_flat : (s : Shelf) (l : Lesson) (literal : ℕ) (truth : Bool) (es table : List SheetEntry) (n : ℕ) (r : Result (Unit {0}) Refusal)
+    → (length es ≤ max_sheet → entries_in table (length es) ≡ es) → Checks s l literal truth (entries_in table n) r → n ≡ length es → Checks s l literal truth es r
+run_flat s l literal truth es table n r same h all =
+    let size = rows_length (entry_in table) 0 n in
+    record { says = h.says ∙ check_length (meaning_of s l) literal truth (entries_in table n) es (size ∙ all) (λ few. ap (entries_in table) all ∙ same (omega arith)) }
