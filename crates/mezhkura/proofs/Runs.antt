@@ -1,5 +1,5 @@
 -- What the calls over a lent run of entries cite: what is said of the run is what is said of its entries in a sheet's table.
-use mathlib.Core.Path.{◌≡◌, ◌∙◌}
+use mathlib.Core.Path.{◌≡◌, ◌∙◌, ap}
 use mathlib.Core.List.{List}
 use Prim.Native.Nat.{ℕ, ◌≤◌}
 use native.Mathlib.Omega.{arith}
