@@ -116,6 +116,8 @@ impl<'a> Numbered<'a> {
 
     // The least set that has the start and is closed under the rules that are not shut and that s keeps: passes until one adds nothing.
     // How many passes there are shows only when one adds nothing, so this is no `for`.
+    // It and the three functions below are compiled into their callers, where the lengths of a book's tables are known: a pass that reads a length from the struct
+    // for each place that it looks at is slower.
     #[inline(always)]
     fn least_closed(&self, start: LitSet, shut: LitSet, s: LitSet) -> LitSet
         ensures { set_of result.words
